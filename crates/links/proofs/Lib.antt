@@ -1,0 +1,4 @@
+pub mod Collecting
+pub mod Sending
+pub mod Cutting
+pub mod Dividing

@@ -1,0 +1,10 @@
+pub mod Refusals
+pub mod Items
+pub mod Reads
+pub mod Collect
+pub mod Cut
+pub mod Slots
+pub mod Writes
+pub mod Send
+pub mod Meaning
+pub mod Laws

@@ -1,0 +1,4 @@
+pub mod Arguments
+pub mod Entries
+pub mod Printing
+pub mod Counts

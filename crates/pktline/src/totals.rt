@@ -1,0 +1,130 @@
+//! The closing count of a capture.
+ghost use mathlib.Core.Path.{_≡_};
+ghost use lib.Dec.{leb};
+ghost use Rattle.pktline.specs.Entries.{entry-of};
+ghost use Rattle.pktline.specs.Counts.{Counted, plus};
+use crate::entry::Entry;
+use lines::PacketLineRef;
+use std::fmt;
+
+/// Behind so many refused prefixes in a row the rest of a capture is taken for something else, as a raw pack.
+pub const MOST_REFUSALS: u64 = 8;
+
+/// What a capture holds, as far as it was shown.
+#[derive(Clone, Copy, Default)]
+pub struct Totals {
+    /// Lines with a payload.
+    pub data_lines: u64,
+    /// Flush lines.
+    pub flushes: u64,
+    /// Delimiter lines.
+    pub delimiters: u64,
+    /// Response end lines.
+    pub response_ends: u64,
+    /// Bytes of payload.
+    pub payload_bytes: u64,
+    /// Refused prefixes.
+    pub refusals: u64,
+    /// Bytes that the last line lacks.
+    pub missing_bytes: u64,
+    /// All bytes.
+    pub bytes: u64,
+    /// Refused prefixes with no line behind them yet.
+    pub in_a_row: u64,
+    /// Bytes behind too many refused prefixes.
+    pub undecoded: u64,
+}
+
+impl Totals {
+    /// Counts an entry.
+    pub fn add(&mut self, entry: &Entry<'_>)
+        ensures { λ _. ⌜ Counted (now (self .entry)) (entry-of (now (entry .entry))) (now (self .exit)) ⌝ }
+    {
+        let in_a_row = self.in_a_row;
+        self.in_a_row = 0;
+        self.bytes = self.bytes.saturating_add(entry.length() as u64);
+        match entry {
+            Entry::Line {
+                line: PacketLineRef::Data(payload),
+                ..
+            } => {
+                self.data_lines = self.data_lines.saturating_add(1);
+                self.payload_bytes = self.payload_bytes.saturating_add(payload.len() as u64);
+            }
+            Entry::Line {
+                line: PacketLineRef::Flush,
+                ..
+            } => self.flushes = self.flushes.saturating_add(1),
+            Entry::Line {
+                line: PacketLineRef::Delimiter,
+                ..
+            } => {
+                self.delimiters = self.delimiters.saturating_add(1);
+            }
+            Entry::Line {
+                line: PacketLineRef::ResponseEnd,
+                ..
+            } => {
+                self.response_ends = self.response_ends.saturating_add(1);
+            }
+            Entry::Refused { .. } => {
+                self.refusals = self.refusals.saturating_add(1);
+                self.in_a_row = in_a_row.saturating_add(1);
+            }
+            Entry::Cut { missing, .. } => {
+                self.missing_bytes = self.missing_bytes.saturating_add(*missing as u64);
+            }
+        }
+    }
+
+    /// Whether too many prefixes in a row were refused to go on.
+    pub fn gives_up(&self) -> bool
+        ensures { λ r. ⌜ r ≡ leb 8 (now (self .entry) .«in_a_row») ⌝ }
+    {
+        self.in_a_row >= MOST_REFUSALS
+    }
+
+    /// Counts bytes that are not decoded.
+    pub fn leave(&mut self, bytes: usize)
+        ensures bytes { λ _. ⌜ now (self .exit) .bytes ≡ plus (now (self .entry) .bytes) bytes ⌝ }
+        ensures undecoded { λ _. ⌜ now (self .exit) .undecoded ≡ plus (now (self .entry) .undecoded) bytes ⌝ }
+    {
+        self.bytes = self.bytes.saturating_add(bytes as u64);
+        self.undecoded = self.undecoded.saturating_add(bytes as u64);
+    }
+}
+
+pub impl fmt::Display for Totals as TotalsDisplay {
+    fn fmt<W: fmt::Write>(&self, f: &mut fmt::Formatter<W>) -> fmt::Result {
+        let Totals {
+            data_lines,
+            flushes,
+            delimiters,
+            response_ends,
+            payload_bytes,
+            refusals,
+            missing_bytes,
+            bytes,
+            undecoded,
+            ..
+        } = *self;
+        if undecoded > 0 {
+            let offset = bytes.saturating_sub(undecoded);
+            writeln!(
+                f,
+                "{offset:>8}  {undecoded:>6}  not decoded   {MOST_REFUSALS} prefixes in a row were refused"
+            )?;
+        }
+        writeln!(f)?;
+        writeln!(
+            f,
+            "lines    {data_lines} data, {flushes} flush, {delimiters} delim, {response_ends} response-end"
+        )?;
+        writeln!(f, "payload  {payload_bytes} bytes")?;
+        writeln!(
+            f,
+            "refused  {refusals} prefixes, {missing_bytes} bytes missing, {undecoded} bytes not decoded"
+        )?;
+        writeln!(f, "capture  {bytes} bytes")
+    }
+}
