@@ -15,10 +15,11 @@ use Rattle.std.specs.declared.result.Result.the-variants.{Ok, Err}
 use Rattle.std.proofs.shelf.Ways.{tells}
 use Rattle.std.proofs.shelf.Tests.{cases-lt, le-ltb}
 use Rattle.lines.specs.Refusals.{Refusal}
-use Rattle.lines.specs.Format.{Line, payload, flush, delimiter, response-end, length-field, Encodes, encoded, hex}
+use Rattle.hex.specs.Digits.{hex, length-field}
+use Rattle.lines.specs.Format.{Line, payload, flush, delimiter, response-end, Encodes, encoded}
 use Rattle.lines.specs.Decoding.{Prefix, marks, wants, complete, incomplete, announced, announced-by, prefix, limited, streamed-by, streamed}
 use Rattle.lines.specs.Laws.{Sendable}
-use Rattle.lines.proofs.Digits.{four-bytes, number-written}
+use Rattle.hex.proofs.Reading.{four-bytes, number-written}
 
 -- Bytes by their prefix
 

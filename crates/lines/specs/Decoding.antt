@@ -10,7 +10,8 @@ use Rattle.std.specs.declared.option.Option.the-variants.{Some, None}
 use Rattle.std.specs.declared.result.Result.{Result}
 use Rattle.std.specs.declared.result.Result.the-variants.{Ok, Err}
 use Rattle.lines.specs.Refusals.{Refusal, not-hex, length-three, empty-line, too-long, missing}
-use Rattle.lines.specs.Format.{Line, payload, flush, delimiter, response-end, most-data, most-line, length-field}
+use Rattle.hex.specs.Digits.{length-field}
+use Rattle.lines.specs.Format.{Line, payload, flush, delimiter, response-end, most-data, most-line}
 
 -- what a prefix announces: a marker, or how many bytes of payload follow
 pub data Prefix : Type 0 where

@@ -1,11 +1,9 @@
 //! Packet lines from bytes.
 ghost use mathlib.Core.Path.{_≡_};
-ghost use Prim.Native.Nat.{_<_, _≤_};
 ghost use lib.ListN.{length};
-ghost use Rattle.std.specs.Slices.{found};
 ghost use Rattle.std.specs.Vec.{made};
 ghost use Rattle.lines.specs.Refusals.{number-of, value-of};
-ghost use Rattle.lines.specs.Format.{digit, joined, length-field};
+ghost use Rattle.hex.specs.Digits.{length-field};
 ghost use Rattle.lines.specs.Decoding.{prefix, limited, Fits, streamed, decoded, data-line, Within};
 ghost use Rattle.lines.specs.Meaning.{answered, line-of, prefix-of, streamed-of, decode-refusal};
 ghost use Rattle.lines.specs.Laws.{Inverse, Taken-off};
@@ -13,6 +11,7 @@ ghost use Rattle.lines.specs.Examples.{Examples};
 use crate::MAX_DATA_LEN;
 use crate::PacketLineRef;
 use crate::U16_HEX_BYTES;
+use hex::hex_byte;
 /// What the bytes at hand are.
 #[derive(Clone, Copy)]
 pub enum Stream<'a> {
@@ -173,13 +172,6 @@ pub fn all_at_once(data: &[u8]) -> Result<PacketLineRef<'_>, DecodeFault>
     }
 }
 
-/// The byte that two hexadecimal digits write, in either case; none where one is no digit.
-pub fn hex_byte(high: u8, low: u8) -> Option<u8>
-    ensures { λ r. ⌜ r ≡ joined 16 (digit high) (digit low) ⌝ }
-{
-    Some(16 * hex_digit(high)? + hex_digit(low)?)
-}
-
 /// Carries the theorem that decoding and writing belong to one grammar.
 pub fn decoding_inverts_encoding() -> u8
     ensures inverse { λ _. ⌜ Inverse ⌝ }
@@ -204,16 +196,4 @@ fn hex_value(four_bytes: &[u8]) -> Option<u16>
     let high = hex_byte(*a, *b)?;
     let low = hex_byte(*c, *d)?;
     Some(256 * u16::from(high) + u16::from(low))
-}
-
-fn hex_digit(b: u8) -> Option<u8>
-    ensures is { λ r. ⌜ r ≡ digit b ⌝ }
-    ensures below { λ r. ⌜ found r (λ d. d < 16) ⌝ }
-{
-    match b {
-        b'0'..=b'9' => Some(b - b'0'),
-        b'a'..=b'f' => Some(b - b'a' + 10),
-        b'A'..=b'F' => Some(b - b'A' + 10),
-        _ => None,
-    }
 }

@@ -9,14 +9,15 @@ use Rattle.std.specs.declared.option.Option.the-variants.{Some}
 use Rattle.std.specs.declared.result.Result.{Result}
 use Rattle.std.specs.declared.result.Result.the-variants.{Ok, Err}
 use Rattle.lines.specs.Refusals.{Refusal}
-use Rattle.lines.specs.Format.{Line, payload, flush, delimiter, response-end, length-field, Encodes}
+use Rattle.hex.specs.Digits.{length-field}
+use Rattle.lines.specs.Format.{Line, payload, flush, delimiter, response-end, Encodes}
 use Rattle.lines.specs.Decoding.{Prefix, marks, wants, announced, prefix, limited}
 use Rattle.links.specs.Refusals.{ended}
 use Rattle.links.specs.Items.{Item, byte, Effect, gives, passes, ends, effect}
 use Rattle.links.specs.Collect.{Collected, stops, behind, by-effect, collect}
 use Rattle.links.specs.Cut.{Unit-taken, unit, line-if, by-prefix, by-answer, first-unit}
 use Rattle.links.specs.Laws.{kept, uninterrupted}
-use Rattle.lines.proofs.Digits.{four-bytes}
+use Rattle.hex.proofs.Reading.{four-bytes}
 use Rattle.lines.proofs.Decoded.{announces}
 use Rattle.links.proofs.Collecting.{same-collected, collect-front}
 

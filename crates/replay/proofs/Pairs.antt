@@ -7,7 +7,7 @@ use lib.ListN.{length, getD, take, drop}
 use Rattle.std.specs.declared.option.Option.{Option}
 use Rattle.std.specs.declared.option.Option.the-variants.{Some, None}
 use Rattle.std.proofs.shelf.Lists.{take-rest}
-use Rattle.lines.specs.Format.{digit, joined}
+use Rattle.hex.specs.Digits.{digit, joined}
 use Rattle.replay.specs.Terms.{pairs, before, term}
 
 -- xs, and then the bytes that there may be

@@ -9,7 +9,8 @@ use lib.ListN.{length}
 use Rattle.std.specs.declared.option.Option.{Option}
 use Rattle.std.specs.declared.option.Option.the-variants.{Some, None}
 use Rattle.std.specs.Of.Vec.{vec-items}
-use Rattle.lines.specs.Format.{Line, payload, flush, delimiter, response-end, digit, joined}
+use Rattle.hex.specs.Digits.{digit, joined}
+use Rattle.lines.specs.Format.{Line, payload, flush, delimiter, response-end}
 use Rattle.replay.specs.declared.script.ScriptFault.{ScriptFault}
 use Rattle.replay.specs.declared.script.ScriptFault.the-variants.{Call, Bytes, Band, Number, Memory}
 use Rattle.replay.specs.declared.terms.ScriptLine.{ScriptLine}

@@ -11,9 +11,9 @@ ghost use Rattle.replay.specs.Terms.{pairs, term, No-bytes, written-line, Is-l
 use crate::script::ScriptFault;
 use crate::script::ScriptFaultFromAlloc;
 use crate::script::ScriptFaultFromRefused;
+use hex::hex_byte;
 use lines::Channel;
 use lines::PacketLineRef;
-use lines::decode::hex_byte;
 use std::alloc::Global;
 
 /// A line that a script writes out.

@@ -1,5 +1,5 @@
 use mathlib.Core.Path.{refl}
-use Rattle.lines.specs.Format.{length-field}
+use Rattle.hex.specs.Digits.{length-field}
 use Rattle.lines.proofs.decode.examples_hold.Needs as need
 
 pub returns : need.returns

@@ -1,5 +1,5 @@
 use borrow.Author.Needs.{needs}
-use Rattle.lines.proofs.Digits.{by-halves, no-field}
+use Rattle.hex.proofs.Reading.{by-halves, no-field}
 use Rattle.lines.proofs.decode.hex_value.Needs as need
 
 pub returns-in-rest : need.returns-in-rest

@@ -1,0 +1,4 @@
+pub mod Placing
+pub mod Stepping
+pub mod Counting
+pub mod Ending
