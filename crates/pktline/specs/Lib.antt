@@ -1,4 +1,1 @@
 pub mod Arguments
-pub mod Entries
-pub mod Printing
-pub mod Counts

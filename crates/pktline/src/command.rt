@@ -38,7 +38,7 @@ pub impl fmt::Display for Misuse<'_> as MisuseDisplay {
         match self {
             Misuse::UnknownCommand(word) => write!(f, "there is no command '{word}'"),
             Misuse::UnknownOption(word) => write!(f, "there is no option '{word}'"),
-            Misuse::NoFile => write!(f, "no file is named"),
+            Misuse::NoFile => f.write_str("no file is named"),
             Misuse::Unexpected(word) => write!(f, "'{word}' is one argument too many"),
         }
     }

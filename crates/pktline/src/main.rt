@@ -3,17 +3,19 @@ ghost use Prim.Native.Nat.{_≤_};
 ghost use lib.ListN.{length};
 ghost use Rattle.std.specs.Vec.{made};
 
+mod closing;
 mod command;
-mod entry;
 mod payload;
 mod row;
-mod totals;
 
-use crate::totals::TotalsDefault;
+use closing::Closing;
+use closing::ClosingDisplay;
 use command::Command;
 use command::MisuseDisplay;
 use command::parse;
-use entry::next_entry;
+use entries::entry::next_entry;
+use entries::totals::Totals;
+use entries::totals::TotalsDefault;
 use row::Row;
 use row::RowDisplay;
 use row::Titles;
@@ -27,8 +29,6 @@ use std::io::BufWriter;
 use std::io::ErrorKind;
 use std::io::Read;
 use std::io::Write;
-use totals::Totals;
-use totals::TotalsDisplay;
 
 const PIECE: usize = 65536;
 
@@ -105,21 +105,33 @@ fn show_file(rt: &LibcRuntime, file: &str, bands: bool) -> Result<(), Failed> {
 fn show(rt: &LibcRuntime, file: &str, bands: bool) -> Result<(), Failure> {
     let mut capture = reading(File::open(rt, file))?;
     let mut held = Vec::new(rt.alloc());
-    let mut at_end = !reading(read_piece(&mut capture, &mut held))?;
+    let more = reading(read_piece(&mut capture, &mut held))?;
     let mut out = BufWriter::new(rt.stdout());
-    writeln!(out, "{}", Titles { bands })?;
-    let mut totals = Totals::default();
-    for _ in 0..u64::MAX {
-        let taken = show_entries(&mut out, held.as_slice(), at_end, bands, &mut totals)?;
-        held = held.split_off(taken)?;
-        if at_end {
-            break;
-        }
-        at_end = !reading(read_piece(&mut capture, &mut held))?;
-    }
-    write!(out, "{totals}")?;
+    out.writeln(Titles { bands })?;
+    let totals = show_pieces(&mut out, &mut capture, held, more, bands)?;
+    out.write_fmt(Closing(totals))?;
     out.flush()?;
     Ok(())
+}
+
+/// Shows what `held` and the rest of a capture hold, and counts it; `more` says that there may be a rest.
+fn show_pieces<W: Write>(
+    out: &mut W,
+    capture: &mut File,
+    mut held: Vec<u8>,
+    mut more: bool,
+    bands: bool,
+) -> Result<Totals, Failure> {
+    let mut totals = Totals::default();
+    for _ in 0..u64::MAX {
+        let taken = show_entries(out, held.as_slice(), !more, bands, &mut totals)?;
+        held = held.split_off(taken)?;
+        if !more {
+            break;
+        }
+        more = reading(read_piece(capture, &mut held))?;
+    }
+    Ok(totals)
 }
 
 /// Tells a failure to read from a failure to write, which `?` takes an `io::Error` for.

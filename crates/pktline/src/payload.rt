@@ -1,81 +1,17 @@
 //! A payload in print.
-ghost use mathlib.Core.Path.{_≡_};
-ghost use Prim.Native.Nat.{_≤_};
-ghost use lib.ListN.{length, take};
-ghost use Rattle.std.specs.Orderings.{Decides};
-ghost use Rattle.std.specs.shelf.Lists.{All};
-ghost use Rattle.std.specs.Text.{Utf8};
-ghost use Rattle.pktline.specs.Printing.{Plain, plain, spelling};
+use entries::payload::Spelling;
+use entries::payload::front;
+use entries::payload::is_text;
+use entries::payload::spell;
 use std::fmt;
 
 const MOST_TEXT: usize = 64;
 
 const MOST_HEX: usize = 20;
 
-/// How a byte is written between quotes.
-#[derive(Clone, Copy)]
-pub enum Spelling {
-    /// As itself.
-    Same(char),
-    /// As a backslash and a letter or sign.
-    Escaped(char),
-    /// As `\x` and two hexadecimal digits.
-    Hex(u8),
-}
-
-/// The spelling of a byte, by which it is known again.
-pub fn spell(byte: u8) -> Spelling
-    ensures { λ r. ⌜ r ≡ spelling byte ⌝ }
-{
-    match byte {
-        0 => Spelling::Escaped('0'),
-        b'\t' => Spelling::Escaped('t'),
-        b'\n' => Spelling::Escaped('n'),
-        b'\r' => Spelling::Escaped('r'),
-        b'"' => Spelling::Escaped('"'),
-        b'\\' => Spelling::Escaped('\\'),
-        b' '..=b'~' => Spelling::Same(byte as char),
-        _ => Spelling::Hex(byte),
-    }
-}
-
-/// Whether a payload is shown as text: UTF-8 without control characters other than NUL, the three band bytes, tab, newline and carriage return.
-pub fn is_text(bytes: &[u8]) -> bool
-    ensures { λ r. ⌜ Decides r (Utf8 (now (bytes .entry)) × All Plain (now (bytes .entry))) ⌝ }
-{
-    std::str::from_utf8(bytes).is_ok() && all_plain(bytes)
-}
-
-fn all_plain(bytes: &[u8]) -> bool
-    ensures { λ r. ⌜ Decides r (All Plain (now (bytes .entry))) ⌝ }
-{
-    for b in bytes {
-        if !is_plain(*b) {
-            return false;
-        }
-    }
-    true
-}
-
-fn is_plain(byte: u8) -> bool
-    ensures { λ r. ⌜ r ≡ plain byte ⌝ }
-{
-    match byte {
-        0..=3 | b'\t' | b'\n' | b'\r' | b' '..=b'~' | 0x80.. => true,
-        _ => false,
-    }
-}
-
-/// The first bytes, as many as `most`.
-fn front(bytes: &[u8], most: usize) -> &[u8]
-    ensures is { λ r. ⌜ now r ≡ take most (now (bytes .entry)) ⌝ }
-    ensures within { λ r. ⌜ length (now r) ≤ length (now (bytes .entry)) ⌝ }
-{
-    if bytes.len() <= most {
-        bytes
-    } else {
-        &bytes[0..most]
-    }
+/// Writes a byte as two hexadecimal digits.
+pub fn write_hex<W: fmt::Write>(f: &mut fmt::Formatter<W>, byte: u8) -> fmt::Result {
+    write!(f, "{byte:02x}")
 }
 
 /// Bytes between quotes, each in its spelling.
@@ -86,13 +22,23 @@ pub impl fmt::Display for Quoted<'_> as QuotedDisplay {
     fn fmt<W: fmt::Write>(&self, f: &mut fmt::Formatter<W>) -> fmt::Result {
         f.write_char('"')?;
         for byte in self.0 {
-            match spell(*byte) {
-                Spelling::Same(c) => f.write_char(c)?,
-                Spelling::Escaped(c) => write!(f, "\\{c}")?,
-                Spelling::Hex(value) => write!(f, "\\x{value:02x}")?,
-            }
+            write_spelled(f, *byte)?;
         }
         f.write_char('"')
+    }
+}
+
+fn write_spelled<W: fmt::Write>(f: &mut fmt::Formatter<W>, byte: u8) -> fmt::Result {
+    match spell(byte) {
+        Spelling::Same(c) => f.write_char(c),
+        Spelling::Escaped(c) => {
+            f.write_char('\\')?;
+            f.write_char(c)
+        }
+        Spelling::Hex(value) => {
+            f.write_str("\\x")?;
+            write_hex(f, value)
+        }
     }
 }
 
@@ -104,7 +50,8 @@ pub impl fmt::Display for Pairs<'_> as PairsDisplay {
     fn fmt<W: fmt::Write>(&self, f: &mut fmt::Formatter<W>) -> fmt::Result {
         f.write_str("hex")?;
         for byte in self.0 {
-            write!(f, " {byte:02x}")?;
+            f.write_char(' ')?;
+            write_hex(f, *byte)?;
         }
         Ok(())
     }
@@ -117,16 +64,21 @@ pub struct Excerpt<'a>(pub &'a [u8]);
 pub impl fmt::Display for Excerpt<'_> as ExcerptDisplay {
     fn fmt<W: fmt::Write>(&self, f: &mut fmt::Formatter<W>) -> fmt::Result {
         let all = self.0;
-        let text = is_text(all);
-        let shown = front(all, if text { MOST_TEXT } else { MOST_HEX });
-        if text {
-            write!(f, "{}", Quoted(shown))?;
+        if is_text(all) {
+            let shown = front(all, MOST_TEXT);
+            f.write(Quoted(shown))?;
+            write_rest(f, all.len() - shown.len())
         } else {
-            write!(f, "{}", Pairs(shown))?;
+            let shown = front(all, MOST_HEX);
+            f.write(Pairs(shown))?;
+            write_rest(f, all.len() - shown.len())
         }
-        match all.len() - shown.len() {
-            0 => Ok(()),
-            rest => write!(f, " .. {rest} more"),
-        }
+    }
+}
+
+fn write_rest<W: fmt::Write>(f: &mut fmt::Formatter<W>, rest: usize) -> fmt::Result {
+    match rest {
+        0 => Ok(()),
+        _ => write!(f, " .. {rest} more"),
     }
 }

@@ -1,9 +1,10 @@
 //! An entry in print.
-use crate::entry::Entry;
 use crate::payload::Excerpt;
 use crate::payload::ExcerptDisplay;
 use crate::payload::Quoted;
 use crate::payload::QuotedDisplay;
+use crate::payload::write_hex;
+use entries::entry::Entry;
 use lines::BandError;
 use lines::BandRef;
 use lines::MAX_LINE_LEN;
@@ -41,27 +42,23 @@ pub struct Row<'a> {
 
 pub impl fmt::Display for Row<'_> as RowDisplay {
     fn fmt<W: fmt::Write>(&self, f: &mut fmt::Formatter<W>) -> fmt::Result {
-        let offset = self.offset;
-        let length = self.entry.length();
-        write!(f, "{offset:>8}  {length:>6}  ")?;
+        write_place(f, self.offset, self.entry.length())?;
         match self.entry {
             Entry::Line { line, .. } if self.bands => write_banded(f, &line),
             Entry::Line { line, .. } => write_line(f, &line),
-            Entry::Refused { prefix, fault } => {
-                let number = fault.number();
-                write!(f, "refused       {}: ", Quoted(prefix))?;
-                write_meaning(f, fault)?;
-                write!(f, " (refusal {number})")
-            }
-            Entry::Cut { length, missing } => {
-                let number = DecodeFault::Missing(missing).number();
-                write!(
-                    f,
-                    "cut off       {length} bytes are here, {missing} are missing (refusal {number})"
-                )
-            }
+            Entry::Refused { prefix, fault } => write_refused(f, prefix, fault),
+            Entry::Cut { length, missing } => write_cut(f, length, missing),
         }
     }
+}
+
+/// Writes the columns for an offset and a length.
+pub fn write_place<W: fmt::Write>(
+    f: &mut fmt::Formatter<W>,
+    offset: u64,
+    length: usize,
+) -> fmt::Result {
+    write!(f, "{offset:>8}  {length:>6}  ")
 }
 
 fn kind_of(line: &PacketLineRef<'_>) -> &'static str {
@@ -76,35 +73,67 @@ fn kind_of(line: &PacketLineRef<'_>) -> &'static str {
 fn write_line<W: fmt::Write>(f: &mut fmt::Formatter<W>, line: &PacketLineRef<'_>) -> fmt::Result {
     match line.as_slice() {
         None => f.write_str(kind_of(line)),
-        Some(payload) => write!(f, "data          {}", Excerpt(payload)),
+        Some(payload) => write_data(f, "", payload),
     }
 }
 
 fn write_banded<W: fmt::Write>(f: &mut fmt::Formatter<W>, line: &PacketLineRef<'_>) -> fmt::Result {
     match line.decode_band() {
-        Ok(BandRef::Data(payload)) => write!(f, "data          1 data      {}", Excerpt(payload)),
-        Ok(BandRef::Progress(payload)) => write!(
-            f,
-            "data          2 progress  {}",
-            Excerpt(payload)
-        ),
-        Ok(BandRef::Error(payload)) => write!(f, "data          3 error     {}", Excerpt(payload)),
-        Err(BandError::UnknownBand(first)) => {
-            write!(f, "data          none 0x{first:02x}   ")?;
-            write_payload(f, line)
-        }
+        Ok(BandRef::Data(payload)) => write_data(f, "1 data      ", payload),
+        Ok(BandRef::Progress(payload)) => write_data(f, "2 progress  ", payload),
+        Ok(BandRef::Error(payload)) => write_data(f, "3 error     ", payload),
+        Err(BandError::UnknownBand(first)) => write_unbanded(f, first, line),
         Err(BandError::NoBand) => f.write_str(kind_of(line)),
     }
 }
 
-fn write_payload<W: fmt::Write>(
+fn write_data<W: fmt::Write>(f: &mut fmt::Formatter<W>, band: &str, payload: &[u8]) -> fmt::Result {
+    f.write_str("data          ")?;
+    f.write_str(band)?;
+    f.write(Excerpt(payload))
+}
+
+fn write_unbanded<W: fmt::Write>(
     f: &mut fmt::Formatter<W>,
+    first: u8,
     line: &PacketLineRef<'_>,
 ) -> fmt::Result {
+    f.write_str("data          none 0x")?;
+    write_hex(f, first)?;
+    f.write_str("   ")?;
     match line.as_slice() {
         None => Ok(()),
-        Some(payload) => write!(f, "{}", Excerpt(payload)),
+        Some(payload) => f.write(Excerpt(payload)),
     }
+}
+
+fn write_refused<W: fmt::Write>(
+    f: &mut fmt::Formatter<W>,
+    prefix: &[u8],
+    fault: DecodeFault,
+) -> fmt::Result {
+    f.write_str("refused       ")?;
+    f.write(Quoted(prefix))?;
+    f.write_str(": ")?;
+    write_meaning(f, fault)?;
+    write_number(f, fault)
+}
+
+fn write_cut<W: fmt::Write>(
+    f: &mut fmt::Formatter<W>,
+    length: usize,
+    missing: usize,
+) -> fmt::Result {
+    write!(
+        f,
+        "cut off       {length} bytes are here, {missing} are missing"
+    )?;
+    write_number(f, DecodeFault::Missing(missing))
+}
+
+fn write_number<W: fmt::Write>(f: &mut fmt::Formatter<W>, fault: DecodeFault) -> fmt::Result {
+    let number = fault.number();
+    write!(f, " (refusal {number})")
 }
 
 fn write_meaning<W: fmt::Write>(f: &mut fmt::Formatter<W>, fault: DecodeFault) -> fmt::Result {

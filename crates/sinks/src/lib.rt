@@ -3,7 +3,7 @@ pub mod memory;
 pub mod send;
 pub mod trace;
 
-/// What a sink has still to come.
+/// How much is left of what is to come from a sink.
 #[derive(Clone, Copy)]
 pub struct Left {
     /// How many places for a byte.

@@ -32,7 +32,7 @@ impl<'a> Memory<'a> {
         front(self.memory, self.filled)
     }
 
-    /// What it has still to come.
+    /// Counts what is still to come.
     pub fn left(&self) -> Left
         ensures { λ r. ⌜ r ≡ tally (memory-stand (now (self .entry)) .room) ⌝ }
     {

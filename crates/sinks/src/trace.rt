@@ -37,7 +37,7 @@ enum Step {
 }
 
 impl<'a, 'b> Trace<'a, 'b> {
-    /// A sink that has to come what `steps` say of the bytes of `memory`.
+    /// A sink whose list is what `steps` have of the bytes of `memory`.
     pub fn new(memory: &'a mut [u8], steps: &'b [u8]) -> Trace<'a, 'b>
         ensures { λ r. ⌜ trace-stand r ≡ fresh-trace (name (memory .entry)) (now (memory .entry)) (now (steps .entry)) ⌝ }
     {
@@ -56,7 +56,7 @@ impl<'a, 'b> Trace<'a, 'b> {
         front(self.memory, self.filled)
     }
 
-    /// What it has still to come.
+    /// Counts what is still to come.
     pub fn left(&self) -> Left
         ensures { λ r. ⌜ r ≡ tally (trace-stand (now (self .entry)) .room) ⌝ }
     {

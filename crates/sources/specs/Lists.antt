@@ -1,4 +1,4 @@
--- What each source has to come.
+-- The list of each source.
 use mathlib.Core.Bool.{cond}
 use mathlib.Core.List.{List, [], _∷_, _++_, map}
 use Prim.Native.Nat.{ℕ}

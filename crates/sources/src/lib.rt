@@ -2,7 +2,7 @@
 pub mod memory;
 pub mod trace;
 
-/// What a source has still to come.
+/// How much is left of what is to come from a source.
 #[derive(Clone, Copy)]
 pub struct Left {
     /// How many bytes.

@@ -18,14 +18,14 @@ pub struct Memory<'a> {
 }
 
 impl<'a> Memory<'a> {
-    /// A source that has exactly `bytes` to come.
+    /// A source whose list is exactly `bytes`.
     pub fn new(bytes: &'a [u8]) -> Memory<'a>
         ensures { λ r. ⌜ memory-list r ≡ map byte (now (bytes .entry)) ⌝ }
     {
         Memory { bytes }
     }
 
-    /// What it has still to come.
+    /// Counts what is still to come.
     pub fn left(&self) -> Left
         ensures { λ r. ⌜ r ≡ tally (memory-list (now (self .entry))) ⌝ }
     {

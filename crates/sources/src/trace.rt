@@ -32,7 +32,7 @@ enum Step {
 }
 
 impl<'a, 'b> Trace<'a, 'b> {
-    /// A source that has to come what `steps` say of `bytes`.
+    /// A source whose list is what `steps` give of `bytes`.
     pub fn new(bytes: &'a [u8], steps: &'b [u8]) -> Trace<'a, 'b>
         ensures { λ r. ⌜ trace-list r ≡ steps-list (now (bytes .entry)) (now (steps .entry)) ⌝ }
     {
@@ -43,7 +43,7 @@ impl<'a, 'b> Trace<'a, 'b> {
         }
     }
 
-    /// What it has still to come.
+    /// Counts what is still to come.
     pub fn left(&self) -> Left
         ensures { λ r. ⌜ r ≡ tally (trace-list (now (self .entry))) ⌝ }
     {

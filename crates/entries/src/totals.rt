@@ -1,16 +1,15 @@
-//! The closing count of a capture.
+//! The count of what a capture holds.
 ghost use mathlib.Core.Path.{_≡_};
 ghost use lib.Dec.{leb};
-ghost use Rattle.pktline.specs.Entries.{entry-of};
-ghost use Rattle.pktline.specs.Counts.{Counted, plus};
+ghost use Rattle.entries.specs.Entries.{entry-of};
+ghost use Rattle.entries.specs.Counts.{Counted, Left};
 use crate::entry::Entry;
 use lines::PacketLineRef;
-use std::fmt;
 
 /// Behind so many refused prefixes in a row the rest of a capture is taken for something else, as a raw pack.
 pub const MOST_REFUSALS: u64 = 8;
 
-/// What a capture holds, as far as it was shown.
+/// What a capture holds, as far as it was counted.
 #[derive(Clone, Copy, Default)]
 pub struct Totals {
     /// Lines with a payload.
@@ -86,45 +85,9 @@ impl Totals {
 
     /// Counts bytes that are not decoded.
     pub fn leave(&mut self, bytes: usize)
-        ensures bytes { λ _. ⌜ now (self .exit) .bytes ≡ plus (now (self .entry) .bytes) bytes ⌝ }
-        ensures undecoded { λ _. ⌜ now (self .exit) .undecoded ≡ plus (now (self .entry) .undecoded) bytes ⌝ }
+        ensures { λ _. ⌜ Left (now (self .entry)) bytes (now (self .exit)) ⌝ }
     {
         self.bytes = self.bytes.saturating_add(bytes as u64);
         self.undecoded = self.undecoded.saturating_add(bytes as u64);
-    }
-}
-
-pub impl fmt::Display for Totals as TotalsDisplay {
-    fn fmt<W: fmt::Write>(&self, f: &mut fmt::Formatter<W>) -> fmt::Result {
-        let Totals {
-            data_lines,
-            flushes,
-            delimiters,
-            response_ends,
-            payload_bytes,
-            refusals,
-            missing_bytes,
-            bytes,
-            undecoded,
-            ..
-        } = *self;
-        if undecoded > 0 {
-            let offset = bytes.saturating_sub(undecoded);
-            writeln!(
-                f,
-                "{offset:>8}  {undecoded:>6}  not decoded   {MOST_REFUSALS} prefixes in a row were refused"
-            )?;
-        }
-        writeln!(f)?;
-        writeln!(
-            f,
-            "lines    {data_lines} data, {flushes} flush, {delimiters} delim, {response_ends} response-end"
-        )?;
-        writeln!(f, "payload  {payload_bytes} bytes")?;
-        writeln!(
-            f,
-            "refused  {refusals} prefixes, {missing_bytes} bytes missing, {undecoded} bytes not decoded"
-        )?;
-        writeln!(f, "capture  {bytes} bytes")
     }
 }

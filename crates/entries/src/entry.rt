@@ -4,7 +4,7 @@ ghost use Prim.Native.Nat.{_≤_, _<_};
 ghost use lib.ListN.{length};
 ghost use Rattle.std.specs.Options.{mapped};
 ghost use Rattle.std.specs.Slices.{found};
-ghost use Rattle.pktline.specs.Entries.{entered, entry-of, size};
+ghost use Rattle.entries.specs.Entries.{entered, entry-of, size};
 use lines::PacketLineRef;
 use lines::U16_HEX_BYTES;
 use lines::decode::DecodeFault;

@@ -8,8 +8,8 @@ use borrow.Author.Needs.{needs}
 use Rattle.std.specs.Orderings.{Decides}
 use Rattle.std.specs.shelf.Lists.{All}
 use Rattle.std.proofs.shelf.Elements.{all-getD, all-from-getD}
-use Rattle.pktline.specs.Printing.{Plain, plain}
-use Rattle.pktline.proofs.payload.all_plain.Needs as need
+use Rattle.entries.specs.Printing.{Plain, plain}
+use Rattle.entries.proofs.payload.all_plain.Needs as need
 
 one-is-not : (xs : List ℕ) (i : ℕ) (r : Bool) → i < length xs → r ≡ plain (getD xs i 0) → r ≡ false → Decides false (All Plain xs)
 one-is-not xs i r h e f = ((λ t. absurd (grind arith)), (λ a. sym f ∙ (e ∙ all-getD Plain xs i 0 h a)))

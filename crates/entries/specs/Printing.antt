@@ -3,8 +3,8 @@ use mathlib.Core.Bool.{Bool, true, cond, _&&_, _||_}
 use mathlib.Core.Path.{_≡_}
 use Prim.Native.Nat.{ℕ}
 use lib.Dec.{eqb, leb}
-use Rattle.pktline.specs.declared.payload.Spelling.{Spelling}
-use Rattle.pktline.specs.declared.payload.Spelling.the-variants.{Same, Escaped, Hex}
+use Rattle.entries.specs.declared.payload.Spelling.{Spelling}
+use Rattle.entries.specs.declared.payload.Spelling.the-variants.{Same, Escaped, Hex}
 
 -- a byte that stands in text: NUL, a band byte, tab, newline, carriage return, printable ASCII, or a part of a character beyond ASCII
 abbrev pub plain : ℕ → Bool

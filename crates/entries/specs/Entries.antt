@@ -12,8 +12,8 @@ use Rattle.lines.specs.Refusals.{Refusal}
 use Rattle.lines.specs.Format.{Line}
 use Rattle.lines.specs.Decoding.{Streamed, complete, incomplete, streamed}
 use Rattle.lines.specs.Meaning.{line-of, decode-refusal}
-use Rattle.pktline.specs.declared.entry.Entry.{Entry}
-use Rattle.pktline.specs.declared.entry.Entry.the-variants as entries
+use Rattle.entries.specs.declared.entry.Entry.{Entry}
+use Rattle.entries.specs.declared.entry.Entry.the-variants as entries
 
 -- a line with all its bytes; four bytes that are refused as a prefix; or the first bytes of a line, with the bytes that are there and those that are missing
 pub data Found : Type 0 where
