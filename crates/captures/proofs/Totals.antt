@@ -18,8 +18,11 @@ total-more t flush n = omega arith
 total-more t delimiter n = omega arith
 total-more t response-end n = omega arith
 
--- what the rest of a slice is
-pub rest-streamed : (s : List ℕ) (n : ℕ) (r : Result Streamed Refusal) → r ≡ streamed (take (length s - n) (drop n s)) → streamed (drop n s) ≡ r
+-- the rest of a slice
+abbrev pub unread : List ℕ → ℕ → List ℕ
+unread s n = take (length s - n) (drop n s)
+
+pub rest-streamed : (s : List ℕ) (n : ℕ) (r : Result Streamed Refusal) → r ≡ streamed (unread s n) → streamed (drop n s) ≡ r
 rest-streamed s n r h = sym (rw take-rest at h)
 
 pub within : (n m : ℕ) (u : Lines) (t : Lines) (l : Line) (x : ℕ) → u ≡ with-line t l x → total t ≤ n → 4 ≤ m → total u ≤ n + m

@@ -25,7 +25,8 @@ pub file-none : {X : Type 0} (f : X → List ℕ) (ws : List X) (bands : Bool) �
 file-none f [] bands h = refl
 file-none f (w ∷ ws) bands h = absurd (omega arith)
 
-pub file-option : {X : Type 0} (f : X → List ℕ) (ws : List X) (v : X) (x y : List ℕ) (bands : Bool) → 1 ≤ length ws → v ≡ getD ws 0 v → x ≡ f v → y ≡ f v → true ≡ starts-option x →
+pub file-option : {X : Type 0} (f : X → List ℕ) (ws : List X) (v : X) (x y : List ℕ) (bands : Bool) →
+    1 ≤ length ws → v ≡ getD ws 0 v → x ≡ f v → y ≡ f v → true ≡ starts-option x →
     Err (unknown-option y) ≡ asked-file (map f ws) bands
 file-option f [] v x y bands h e p q t = absurd (omega arith)
 file-option f (w ∷ []) v x y bands h e p q t =
@@ -35,7 +36,8 @@ file-option f (w ∷ u ∷ ws) v x y bands h e p q t =
     let s : starts-option (f w) ≡ true = sym (t ∙ ap starts-option (p ∙ ap f e)) in
     rw (s, q, e)
 
-pub file-alone : {X : Type 0} (f : X → List ℕ) (ws : List X) (v u : X) (x y : List ℕ) (bands : Bool) → 1 ≤ length ws → length ws < 2 → v ≡ getD ws 0 v → u ≡ getD ws 0 u → x ≡ f v → y ≡ f u → false ≡ starts-option x →
+pub file-alone : {X : Type 0} (f : X → List ℕ) (ws : List X) (v u : X) (x y : List ℕ) (bands : Bool) →
+    1 ≤ length ws → length ws < 2 → v ≡ getD ws 0 v → u ≡ getD ws 0 u → x ≡ f v → y ≡ f u → false ≡ starts-option x →
     Ok (show y bands) ≡ asked-file (map f ws) bands
 file-alone f [] v u x y bands h i e d p q t = absurd (omega arith)
 file-alone f (w ∷ []) v u x y bands h i e d p q t =
@@ -43,7 +45,8 @@ file-alone f (w ∷ []) v u x y bands h i e d p q t =
     rw (s, q, d)
 file-alone f (w ∷ z ∷ ws) v u x y bands h i e d p q t = absurd (omega arith)
 
-pub file-second : {X : Type 0} (f : X → List ℕ) (ws : List X) (v u : X) (x y : List ℕ) (bands : Bool) → 2 ≤ length ws → v ≡ getD ws 0 v → u ≡ getD ws 1 u → x ≡ f v → y ≡ f u → false ≡ starts-option x →
+pub file-second : {X : Type 0} (f : X → List ℕ) (ws : List X) (v u : X) (x y : List ℕ) (bands : Bool) →
+    2 ≤ length ws → v ≡ getD ws 0 v → u ≡ getD ws 1 u → x ≡ f v → y ≡ f u → false ≡ starts-option x →
     Err (unexpected y) ≡ asked-file (map f ws) bands
 file-second f [] v u x y bands h e d p q t = absurd (omega arith)
 file-second f (w ∷ []) v u x y bands h e d p q t = absurd (omega arith)

@@ -1,0 +1,4 @@
+pub mod Refusals
+pub mod Readers
+pub mod Laws
+pub mod Examples
