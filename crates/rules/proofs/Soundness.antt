@@ -11,7 +11,9 @@ use Rattle.lines.specs.Refusals.{Refusal}
 use Rattle.lines.specs.Format.{Line, and-then, payload-of, message}
 use Rattle.links.specs.Items.{Item}
 use Rattle.links.specs.Cut.{first-unit}
-use Rattle.rules.specs.Readers.{Stops, stops-at, Phase, ready, holds, stopped, failed, Reader, Verdict, idle, stop, hand, fail, refuse, by-flag, judged, verdict-in, read-phase, peek-phase, Sound-in, Sound, Read-line, Peek-line, Replace-and-truncate, edited-in, edit-after, resumed}
+use Rattle.rules.specs.Readers.{Stops, stops-at, Phase, ready, holds, stopped, failed, Reader, Sound-in, Sound}
+use Rattle.rules.specs.Readers.{Verdict, idle, stop, hand, fail, refuse, by-flag, judged, verdict-in, read-phase, peek-phase}
+use Rattle.rules.specs.Readers.{Read-line, Peek-line, Replace-and-truncate, edited-in, edit-after, resumed}
 
 -- a verdict stops only at a marker of the stop set
 abbrev Stops-well : Stops → Verdict → Type 0

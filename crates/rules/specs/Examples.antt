@@ -11,7 +11,8 @@ use Rattle.std.specs.declared.result.Result.the-variants.{Ok, Err}
 use Rattle.lines.specs.Refusals.{Refusal, refused}
 use Rattle.lines.specs.Format.{Line, payload, flush}
 use Rattle.links.specs.Items.{Item, byte}
-use Rattle.rules.specs.Readers.{Stops, Reader, View, the-line, the-message, ready, new-reader, verdict, answer, shown, read-phase, peek-phase, left-in, after, reset, reset-with, fail-on-err-lines, edited-in, edit-answer, edit-after, replaced, stopped-at}
+use Rattle.rules.specs.Readers.{Stops, Reader, View, the-line, the-message, ready, new-reader, verdict, answer, shown, read-phase, peek-phase, left-in, after}
+use Rattle.rules.specs.Readers.{reset, reset-with, fail-on-err-lines, edited-in, edit-answer, edit-after, replaced, stopped-at}
 
 -- Runs
 
