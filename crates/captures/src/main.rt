@@ -1,4 +1,5 @@
 //! Decodes captures of git to their ends, from memory and from a link, and says what they hold.
+#![tactic(auto)]
 mod tally;
 mod units;
 

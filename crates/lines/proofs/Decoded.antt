@@ -4,11 +4,11 @@ use lib.Seq.{take-append-le, take-append_seam}
 use Rattle.std.proofs.lemmas.Bool.Decides.{nat_tests}
 use Rattle.std.proofs.lemmas.Bool.{cases_lt, le-ltb}
 use Rattle.lines.specs.Refusals.{Refusal}
-use Rattle.hex.specs.Digits.{hex, length_field}
+use Rattle.hex_digits.specs.Digits.{hex, length_field}
 use Rattle.lines.specs.Format.{Line, payload, flush, delimiter, response_end, Encodes, encoded}
 use Rattle.lines.specs.Decoding.{Prefix, marks, wants, complete, incomplete, announced, announced_by, prefix, limited, streamed_by, streamed}
 use Rattle.lines.specs.Laws.{Sendable}
-use Rattle.hex.proofs.Reading.{four_bytes, number_written}
+use Rattle.hex_digits.proofs.Reading.{four_bytes, number_written}
 
 -- Bytes by their prefix
 

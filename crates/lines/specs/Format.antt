@@ -1,6 +1,6 @@
 -- The packet line format, from gitprotocol-common, gitprotocol-v2 (the markers) and gitprotocol-pack (the bands).
 use Rattle.std.specs.Prelude.{◌≡◌, ℕ, ◌+◌, ◌-◌, ◌<◌, ◌≤◌, cond, ◌&&◌, List, [], ◌∷◌, ◌++◌, length, take, drop, Some, None, Ok, Err, codes, Option, Result, ◌==◌, nat_le, slice_index}
-use Rattle.hex.specs.Digits.{hex, length_field}
+use Rattle.hex_digits.specs.Digits.{hex, length_field}
 use Rattle.lines.specs.Refusals.{Refusal, no_band, unknown_band}
 
 -- Lines

@@ -1,14 +1,14 @@
 //! Packet lines from bytes.
 ghost use Rattle.std.specs.Prelude.{◌≡◌, length, IfOk};
 ghost use Rattle.lines.specs.Refusals.{number_of, value_of};
-ghost use Rattle.hex.specs.Digits.{length_field};
+ghost use Rattle.hex_digits.specs.Digits.{length_field};
 ghost use Rattle.lines.specs.Decoding.{prefix, limited, Fits, streamed, decoded, data_line, Within};
 ghost use Rattle.lines.specs.Meaning.{answered, line_of, prefix_of, streamed_of, decode_refusal};
 ghost use Rattle.lines.specs.Laws.{Inverse, TakenOff};
 ghost use Rattle.lines.specs.Examples.{Examples};
 
 use crate::{MAX_DATA_LEN, PacketLineRef, U16_HEX_BYTES};
-use hex::hex_byte;
+use hex_digits::hex_byte;
 /// What the bytes at hand are.
 #[derive(Clone, Copy)]
 pub enum Stream<'a> {

@@ -1,2 +1,2 @@
 //! Packet lines to bytes.
-pub use hex::u16_to_hex;
+pub use hex_digits::u16_to_hex;

@@ -1,4 +1,5 @@
 //! What gives bytes and what takes them, by their meaning, and one unit taken from what gives.
+#![tactic(auto)]
 pub mod memory;
 pub mod sink;
 pub mod source;

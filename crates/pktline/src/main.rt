@@ -1,4 +1,5 @@
 //! Shows the packet lines of a capture.
+#![tactic(auto)]
 ghost use Rattle.std.specs.Prelude.{◌≤◌, length, IfOk};
 
 mod closing;

@@ -1,7 +1,7 @@
 -- Pairs of hexadecimal digits, read from the front.
 use Rattle.std.proofs.Common.{◌≡◌, ℕ, ◌-◌, ◌<◌, ◌≤◌, List, [], ◌∷◌, ◌++◌, length, get_or, take, drop, Some, None, Option, sym, refl, ap, ◌∙◌, append_assoc, append-nil, arith}
 use Rattle.std.proofs.lemmas.List.{take_rest}
-use Rattle.hex.specs.Digits.{digit, joined}
+use Rattle.hex_digits.specs.Digits.{digit, joined}
 use Rattle.replay.specs.Terms.{pairs, before, term}
 
 -- xs, and then the bytes that there may be

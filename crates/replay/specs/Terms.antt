@@ -1,6 +1,6 @@
 -- What the words of a script mean.
 use Rattle.std.specs.Prelude.{◌≡◌, ℕ, cond, ◌&&◌, List, [], ◌∷◌, length, Some, None, vec_items, codes, Option, ◌==◌}
-use Rattle.hex.specs.Digits.{digit, joined}
+use Rattle.hex_digits.specs.Digits.{digit, joined}
 use Rattle.lines.specs.Format.{Line, payload, flush, delimiter, response_end}
 use Rattle.replay.specs.declared.script.ScriptFault.{ScriptFault}
 use Rattle.replay.specs.declared.script.ScriptFault.TheVariants.{Call, Bytes, Band, Number, Memory}

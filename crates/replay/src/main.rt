@@ -1,4 +1,5 @@
 //! Replays a script of calls from standard input, and prints each answer.
+#![tactic(auto)]
 mod answer;
 mod run;
 mod script;

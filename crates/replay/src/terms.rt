@@ -4,7 +4,7 @@ ghost use Rattle.lines.specs.Meaning.{line_of, channel_of};
 ghost use Rattle.replay.specs.Terms.{pairs, term, NoBytes, written_line, IsLine};
 
 use crate::script::ScriptFault;
-use hex::hex_byte;
+use hex_digits::hex_byte;
 use lines::{Channel, PacketLineRef};
 use std::alloc::Global;
 

@@ -1,4 +1,5 @@
 //! The law of a service, as definitions, with its proofs.
+#![tactic(auto)]
 ghost use Rattle.service_law.specs.Law.{LawHolds};
 
 /// Nothing yet.

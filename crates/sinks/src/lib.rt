@@ -1,4 +1,5 @@
 //! Sinks over lent memory.
+#![tactic(auto)]
 pub mod memory;
 pub mod send;
 pub mod trace;

@@ -1,4 +1,5 @@
 //! Sources over lent bytes.
+#![tactic(auto)]
 pub mod memory;
 pub mod trace;
 

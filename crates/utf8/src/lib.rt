@@ -1,4 +1,6 @@
 // Whether bytes are UTF-8, character by character, with blocks for runs of ASCII.
+#![tactic(auto)]
+
 ghost use Rattle.std.specs.Prelude.{◌≡◌, ◌≤◌, true, length, Decides, MatchOption};
 ghost use Rattle.utf8.specs.Rfc3629.{In, Tail, Three, Four, Octets};
 ghost use Rattle.utf8.specs.Fronts.{StartsTwo, StartsThree, StartsFour, Whole, NoCharacter, AsciiFront};

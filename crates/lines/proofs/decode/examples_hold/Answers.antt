@@ -1,5 +1,5 @@
 use Rattle.std.proofs.Common.{refl}
-use Rattle.hex.specs.Digits.{length_field}
+use Rattle.hex_digits.specs.Digits.{length_field}
 use Rattle.lines.proofs.decode.examples_hold.Goals as goal
 
 pub returns : goal.returns

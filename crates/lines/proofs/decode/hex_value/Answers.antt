@@ -1,5 +1,5 @@
 use Rattle.std.proofs.Common.{rules}
-use Rattle.hex.proofs.Reading.{by_halves, no_field}
+use Rattle.hex_digits.proofs.Reading.{by_halves, no_field}
 use Rattle.lines.proofs.decode.hex_value.Goals as goal
 
 pub returns-in-default : goal.returns-in-default

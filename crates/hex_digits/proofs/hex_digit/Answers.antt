@@ -1,6 +1,6 @@
 use Rattle.std.proofs.Common.{arith}
-use Rattle.hex.proofs.Reading.{decimal, lower, upper}
-use Rattle.hex.proofs.hex_digit.Goals as goal
+use Rattle.hex_digits.proofs.Reading.{decimal, lower, upper}
+use Rattle.hex_digits.proofs.hex_digit.Goals as goal
 
 pub returns-in-48-to-57 : goal.returns-in-48-to-57
 returns-in-48-to-57 c = record { is = decimal c.args.b (omega arith) (omega arith); below = omega arith }

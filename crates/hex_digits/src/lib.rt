@@ -1,6 +1,8 @@
 //! Hexadecimal digits of packet lines: read in either case, written in lower case.
+#![tactic(auto)]
+
 ghost use Rattle.std.specs.Prelude.{◌≡◌, ◌<◌, IfSome, Some};
-ghost use Rattle.hex.specs.Digits.{digit, joined, hex_digit_of, hex, length_field};
+ghost use Rattle.hex_digits.specs.Digits.{digit, joined, hex_digit_of, hex, length_field};
 
 /// The byte that two hexadecimal digits write, in either case; none where one is no digit.
 pub fn hex_byte(high: u8, low: u8) -> Option<u8>

@@ -1,7 +1,7 @@
 -- Digits that are written are read back.
 use Rattle.std.proofs.Common.{◌≡◌, ℕ, ◌+◌, ◌-◌, ◌*◌, ◌/◌, ◌%◌, ◌<◌, ◌≤◌, Bool, true, false, cond, eqb, ◌⊎◌, List, length, get_or, Some, None, Option, sym, ap, ◌∙◌, inl, inr, arith}
 use Rattle.std.proofs.lemmas.Bool.{eqb-true, eq-eqb, ne_eqb, le-leb, lt-leb, lt-ltb, le-ltb, cases_lt}
-use Rattle.hex.specs.Digits.{digit, joined, hex_digit_of, hex, length_field}
+use Rattle.hex_digits.specs.Digits.{digit, joined, hex_digit_of, hex, length_field}
 
 -- digits by their ranges
 pub decimal : (c : ℕ) → 48 ≤ c → c ≤ 57 → Some (c - 48) ≡ digit c
