@@ -10,8 +10,8 @@ one_is_not xs i r h e f = ((λ t. absurd (grind arith)), (λ a. sym f ∙ (e ∙
 all_are : (xs : List ℕ) → ((k : ℕ) → k < length xs → Plain (get_or xs k 0)) → Decides true (All Plain xs)
 all_are xs h = ((λ t. All-from_get_or Plain xs 0 h), (λ a. refl))
 
-pub returns-then-not-is-plain : goal.returns-then-not-is-plain
-returns-then-not-is-plain c = one_is_not c.args.bytes.now c.loop-b.b-index c.is-plain.result (search rules) c.is-plain.ensures (search rules)
+pub returns-then-not-is_plain : goal.returns-then-not-is_plain
+returns-then-not-is_plain c = one_is_not c.args.bytes.now c.loop-b.b-index c.is_plain.result (search rules) c.is_plain.ensures (search rules)
 
 pub returns : goal.returns
 returns c = all_are c.args.bytes.now (search rules)

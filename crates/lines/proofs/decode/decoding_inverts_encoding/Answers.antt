@@ -6,5 +6,5 @@ pub returns : goal.returns
 returns c =
     record {
       inverse = record { reads = reads; only = only; writes = writes; completes = completes; stays_refused = stays_refused };
-      taken-off = record { messages = message_back; only_messages = message_only; texts = text_back; bands = band_back };
+      taken_off = record { messages = message_back; only_messages = message_only; texts = text_back; bands = band_back };
     }

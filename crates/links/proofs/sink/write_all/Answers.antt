@@ -4,34 +4,34 @@ use Rattle.links.specs.Slots.{interrupts}
 use Rattle.links.proofs.Sending.{sends_as, goes_on, passes_over, faults, takes_no_more, all_sent, takes_falls, writes_interrupted, writes_bytes}
 use Rattle.links.proofs.sink.write_all.Goals as goal
 
-pub returns-in-err-write : goal.returns-in-err-write
-returns-in-err-write g c =
-    let p = err_from_is_err_and c.from-residual.result c.from-residual.ensures.1 in
+pub returns-in_err-write : goal.returns-in_err-write
+returns-in_err-write g c =
+    let p = err_from_is_err_and c.from_residual.result c.from_residual.ensures.1 in
     let stand = g.K.Sink.stand in
     rw (p.1, p.2)
     (sends_as {after = stand c.write.new.self}
-    (faults _ (stand c.push.sink) (stand c.write.new.self) c.args.bytes.now c.push.at c.push.invariant.1 _ _ refl c.in-err-write.ensures))
+    (faults _ (stand c.push.sink) (stand c.write.new.self) c.args.bytes.now c.push.at c.push.invariant.1 _ _ refl c.in_err-write.ensures))
 
 pub push-preserved-in-Interrupted : goal.push-preserved-in-Interrupted
 push-preserved-in-Interrupted g c =
-    let was = c.in-ok-write.was in
+    let was = c.in_ok-write.was in
     let stand = g.K.Sink.stand in
     (search rules, passes_over _ (stand c.push.sink) (stand c.write.new.self) c.args.bytes.now c.push.at c.push.invariant.1 interrupts refl (writes_interrupted c.write.result (cc) c.write.ensures))
 
 pub returns-in-Bytes-eq0 : goal.returns-in-Bytes-eq0
 returns-in-Bytes-eq0 g c =
-    let was = c.in-ok-write.was in
+    let was = c.in_ok-write.was in
     let stand = g.K.Sink.stand in
     sends_as (takes_no_more _ (stand c.push.sink) (stand c.write.new.self) c.args.bytes.now c.push.at c.push.invariant.1 c.push-test.true (writes_bytes c.write.result 0 (cc) c.write.ensures))
 
 pub push-smaller : goal.push-smaller
 push-smaller g c =
-    let was = c.in-ok-write.was in
+    let was = c.in_ok-write.was in
     takes_falls _ _ _ c.in-Bytes.n (omega arith) (writes_bytes c.write.result c.in-Bytes.n (cc) c.write.ensures)
 
 pub push-preserved : goal.push-preserved
 push-preserved g c =
-    let was = c.in-ok-write.was in
+    let was = c.in_ok-write.was in
     let stand = g.K.Sink.stand in
     goes_on _ (stand c.push.sink) (stand c.write.new.self) c.args.bytes.now c.push.at c.push.invariant.1 c.in-Bytes.n c.push.invariant.0 (writes_bytes c.write.result c.in-Bytes.n (cc) c.write.ensures)
 

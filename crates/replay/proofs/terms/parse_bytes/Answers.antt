@@ -5,8 +5,8 @@ use Rattle.replay.proofs.terms.parse_bytes.Goals as goal
 
 pub returns-in-104 : goal.returns-in-104
 returns-in-104 c =
-    let w = c.as-bytes.result.now in
+    let w = c.as_bytes.result.now in
     let long : 1 ≤ length w = search rules in
     let h : get_or w 0 0 ≡ 104 = search rules in
-    let e : term c.args.word.now ≡ pairs (take (length w - 1) (drop 1 w)) = ap term (sym c.as-bytes.ensures.value) ∙ pairs_behind w long h in
-    rw e c.parse-pairs.ensures
+    let e : term c.args.word.now ≡ pairs (take (length w - 1) (drop 1 w)) = ap term (sym c.as_bytes.ensures.value) ∙ pairs_behind w long h in
+    rw e c.parse_pairs.ensures

@@ -5,5 +5,5 @@ use Rattle.replay.proofs.terms.parse_pairs.Goals as goal
 pub loop-rest-preserved : goal.loop-rest-preserved
 loop-rest-preserved c =
     let long : 2 ≤ length c.loop-rest.rest.now = search rules in
-    rw c.in-ok-push.ensures.items
+    rw c.in_ok-push.ensures.items
     (one_more c.args.digits.now (vec_items c.loop-rest.bytes) c.loop-rest.rest.now c.in-Some.byte c.loop-rest.invariant long c.in-Some.ensures)

@@ -5,8 +5,8 @@ use Rattle.sinks.proofs.send.send_to_memory.Goals as goal
 pub returns : goal.returns
 returns c =
     let made = c.new-sink.ensures in
-    let sent = c.write-all.ensures in
-    let sink = c.write-all.new.sink in
+    let sent = c.write_all.ensures in
+    let sink = c.write_all.new.sink in
     let here = same_home made sent in
     let held = parted sink.memory.now sink.filled ∙ then_holds made sent in
     record { answer = then_answers made sent; memory = search rules }

@@ -9,7 +9,7 @@ returns c =
     let memory = c.args.self.now.memory.now in
     let at = c.args.self.now.filled in
     let bytes = c.args.bytes.now in
-    let n = c.put-some-n.result in
-    let long = (placed memory _ bytes at n (omega arith) (omega arith) c.put-some-n.ensures.put).long in
+    let n = c.put_some-n.result in
+    let long = (placed memory _ bytes at n (omega arith) (omega arith) c.put_some-n.ensures.put).long in
     let room = length-replicate (length memory - at) place in
-    takes memory _ bytes at n (omega arith) (omega arith) c.put-some-n.ensures.put _ _ _ (λ h i. omega arith) (uses_places _ n _ (omega arith))
+    takes memory _ bytes at n (omega arith) (omega arith) c.put_some-n.ensures.put _ _ _ (λ h i. omega arith) (uses_places _ n _ (omega arith))

@@ -7,7 +7,7 @@ steps-init c = (tally_bytes c.args.self.now.piece.now _, refl, search rules)
 
 pub steps-preserved-in-Bytes : goal.steps-preserved-in-Bytes
 steps-preserved-in-Bytes c =
-    let split = c.split-at.ensures in
+    let split = c.split_at.ensures in
     let counted = counts_bytes _ c.steps.left c.steps.bytes.now c.steps.steps.now c.steps.invariant.0 (search rules) in
     (counted _ _ _ _ c.in-Bytes.ensures c.min.ensures split.front split.back, search rules, search rules)
 

@@ -3,15 +3,15 @@ use Rattle.sources.proofs.Stepping.{ends, begins, spends}
 use Rattle.sources.proofs.Giving.{gives_front, gives_none, gives_same}
 use Rattle.sources.proofs.trace.TraceSource.read.Goals as goal
 
-pub returns-in-default : goal.returns-in-default
-returns-in-default c =
+pub returns-in_default : goal.returns-in_default
+returns-in_default c =
     let s = c.steps.self in
     gives_none _ _ _ c.steps.invariant (ends s.piece.now s.bytes.now s.steps.now (search rules) (search rules))
 
 pub steps-preserved : goal.steps-preserved
 steps-preserved c =
     let s = c.steps.self in
-    let split = c.split-at.ensures in
+    let split = c.split_at.ensures in
     begins s.piece.now s.bytes.now s.steps.now (search rules) (search rules) _ _ _ _ c.in-Bytes.ensures c.min.ensures split.front split.back ∙ c.steps.invariant
 
 pub returns-in-Interruption : goal.returns-in-Interruption
@@ -28,6 +28,6 @@ returns-in-Fault c =
 
 pub returns : goal.returns
 returns c =
-    let copy = c.copy-front-n.ensures in
+    let copy = c.copy_front-n.ensures in
     let some : 0 < length c.steps.self.piece.now = search rules in
     gives_same c.steps.invariant (gives_front c.steps.self.piece.now _ _ _ _ copy.count copy.copied copy.left _ (λ _. some))
