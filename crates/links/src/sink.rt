@@ -77,7 +77,7 @@ impl WriteFault {
 ///
 /// Refuses where the sink takes none or faults before; the bytes accepted until then stay accepted.
 pub fn write_all<K: Sink>(sink: &mut K, bytes: &[u8]) -> Result<(), WriteFault>
-    ensures { Sends (stand sink.old) bytes.now (done_or write_refusal result) (stand sink.new) }
+    ensures { Sends (K.stand sink.old) bytes.now (done_or write_refusal result) (K.stand sink.new) }
 {
     let mut at = 0;
     'push: while at < bytes.len() {

@@ -77,7 +77,7 @@ impl ReadFault {
 ///
 /// Refuses where the source ends or faults before; the bytes given until then stand in front of `memory`.
 pub fn read_exact<S: Source>(source: &mut S, memory: &mut [u8]) -> Result<(), ReadFault>
-    ensures { Collects (left source.old) memory.old (done_or read_refusal result) (left source.new) memory.new }
+    ensures { Collects (S.left source.old) memory.old (done_or read_refusal result) (S.left source.new) memory.new }
 {
     let mut at = 0;
     'fill: while at < memory.len() {

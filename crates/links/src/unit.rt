@@ -86,7 +86,7 @@ pub fn read_line_inner<S: Source>(
     source: &mut S,
     memory: &mut LineMemory,
 ) -> Result<LineKind, UnitFault>
-    ensures { TakesUnit (left source.old) result (left source.new) memory.new.bytes.items }
+    ensures { TakesUnit (S.left source.old) result (S.left source.new) memory.new.bytes.items }
 {
     read_unit(source, &mut memory.bytes)
 }
@@ -100,7 +100,7 @@ pub fn cut_divides_in_order() -> u8
 
 fn read_unit<S: Source>(source: &mut S, memory: &mut [u8]) -> Result<LineKind, UnitFault>
     requires { length memory.old ≡ 65520 }
-    ensures { TakesUnit (left source.old) result (left source.new) memory.new }
+    ensures { TakesUnit (S.left source.old) result (S.left source.new) memory.new }
 {
     read_exact(source, &mut memory[0..U16_HEX_BYTES])?;
     let kind = line_kind(&memory[0..U16_HEX_BYTES])?;
