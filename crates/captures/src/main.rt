@@ -1,5 +1,6 @@
 //! Decodes captures of git to their ends, from memory and from a link, and says what they hold.
 #![tactic(auto)]
+
 mod tally;
 mod units;
 

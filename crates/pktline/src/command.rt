@@ -63,7 +63,7 @@ fn show_command(words: &[String]) -> Result<Command<'_>, Misuse<'_>>
     let [first, rest @ ..] = words else {
         return Err(Misuse::NoFile);
     };
-    if first == "--bands" {
+    if first.as_str() == "--bands" {
         file_command(rest, true)
     } else {
         file_command(words, false)

@@ -1,5 +1,6 @@
 //! Shows the packet lines of a capture.
 #![tactic(auto)]
+
 ghost use Rattle.std.specs.Prelude.{◌≤◌, length, IfOk};
 
 mod closing;
@@ -16,6 +17,7 @@ use std::alloc::AllocError;
 use std::fmt::Display;
 use std::fs::File;
 use std::io::{BufWriter, ErrorKind, Read, Write};
+use std::process::ExitCode;
 use std::{env, io};
 
 const PIECE: usize = 65536;
@@ -28,10 +30,6 @@ length with the prefix, its kind, and its payload as text or hexadecimal digits.
 
   --bands   take the first byte of each payload for its band
 ";
-
-/// Ends the program with status 1.
-#[derive(Drop)]
-struct Failed;
 
 /// Why a capture was not shown to its end.
 #[derive(Drop)]
@@ -54,7 +52,7 @@ impl From<AllocError> for Failure {
     }
 }
 
-fn main(rt: HostRuntime) -> Result<(), Failed> {
+fn main(rt: HostRuntime) -> ExitCode {
     let words = match arguments(&rt) {
         Ok(words) => words,
         Err(error) => return fail(&rt, format_args!("cannot take the arguments: {error}")),
@@ -62,16 +60,17 @@ fn main(rt: HostRuntime) -> Result<(), Failed> {
     match parse(words.as_slice()) {
         Ok(Command::Help) => {
             let _ = rt.print(USAGE);
-            Ok(())
+            ExitCode::SUCCESS
         }
         Ok(Command::Show { file, bands }) => show_file(&rt, file, bands),
         Err(misuse) => fail(&rt, format_args!("{misuse} (see pktline help)")),
     }
 }
 
-fn fail(rt: &HostRuntime, why: impl Display + Drop) -> Result<(), Failed> {
+/// Says why, and ends the program with status 1.
+fn fail(rt: &HostRuntime, why: impl Display + Drop) -> ExitCode {
     let _ = eprintln!(rt; "pktline: {why}");
-    Err(Failed)
+    ExitCode::FAILURE
 }
 
 fn arguments(rt: &HostRuntime) -> io::Result<Vec<String>> {
@@ -82,9 +81,9 @@ fn arguments(rt: &HostRuntime) -> io::Result<Vec<String>> {
     Ok(words)
 }
 
-fn show_file(rt: &HostRuntime, file: &str, bands: bool) -> Result<(), Failed> {
+fn show_file(rt: &HostRuntime, file: &str, bands: bool) -> ExitCode {
     match show(rt, file, bands) {
-        Ok(()) => Ok(()),
+        Ok(()) => ExitCode::SUCCESS,
         Err(Failure::Capture(error)) => fail(rt, format_args!("cannot read {file}: {error}")),
         Err(Failure::Output(error)) => fail(rt, format_args!("cannot write: {error}")),
     }

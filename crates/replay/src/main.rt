@@ -1,5 +1,6 @@
 //! Replays a script of calls from standard input, and prints each answer.
 #![tactic(auto)]
+
 mod answer;
 mod run;
 mod script;
@@ -8,6 +9,7 @@ mod terms;
 use crate::run::answer_to;
 use crate::script::{Call, ScriptFault, Step, parse_step};
 use std::io::{BufRead, BufReader, BufWriter, Write};
+use std::process::ExitCode;
 use std::{fmt, io};
 
 /// Why a script was not replayed to its end.
@@ -38,12 +40,14 @@ impl fmt::Display for Failure {
 }
 
 /// Says on standard error why a script was not replayed to its end.
-fn main(rt: HostRuntime) -> Result<(), Failure> {
-    let result = replay(&rt);
-    if let Err(failure) = &result {
-        eprintln!(rt; "replay: {failure}")?;
+fn main(rt: HostRuntime) -> ExitCode {
+    match replay(&rt) {
+        Ok(()) => ExitCode::SUCCESS,
+        Err(failure) => {
+            let _ = eprintln!(rt; "replay: {failure}");
+            ExitCode::FAILURE
+        }
     }
-    result
 }
 
 /// Replays the script on standard input, of which it holds one line at a time.

@@ -14,7 +14,7 @@ pub returns-in_default-as_str : goal.returns-in_default-as_str
 returns-in_default-as_str c =
     all_other string_bytes c.args.words.now c.verb-item.result c.as_str.result.now
     (search rules) c.verb-item.is c.as_str.ensures.value
-    c.in_default-as_str.not-help c.in_default-as_str.not_text c.in_default-as_str.not-text-2 c.in_default-as_str.not-show
+    c.in_default-as_str.not-help c.in_default-as_str.not-text c.in_default-as_str.not-text-2 c.in_default-as_str.not-show
 
 pub returns-in-help : goal.returns-in-help
 returns-in-help c =
