@@ -1,6 +1,5 @@
 //! How a payload is shown.
-ghost use Rattle.std.specs.Prelude.{◌≡◌, ◌≤◌, length, take, IsUtf8, Decides};
-ghost use Rattle.std.specs.List.{AllByRecursion as All};
+ghost use Rattle.std.specs.Prelude.{◌≡◌, ◌≤◌, length, take, IsUtf8, All, Decides};
 ghost use Rattle.entries.specs.Printing.{Plain, plain, spelling};
 
 /// How a byte is written between quotes.

@@ -1,5 +1,5 @@
 -- What bytes at hand are: a line, a part of one, or refused.
-use Rattle.std.specs.Prelude.{◌≡◌, ℕ, ◌+◌, ◌-◌, ◌<◌, ◌≤◌, cond, List, length, take, drop, Some, None, Ok, Err, Option, Result, ◌==◌, nat_lt}
+use Rattle.std.specs.Prelude.{ℕ, ◌+◌, ◌-◌, ◌<◌, ◌≤◌, cond, List, length, take, drop, Some, None, Ok, Err, Option, Result, ◌==◌, nat_lt}
 use Rattle.lines.specs.Refusals.{Refusal, not_hex, length_three, empty_line, too_long, missing}
 use Rattle.hex_digits.specs.Digits.{length_field}
 use Rattle.lines.specs.Format.{Line, payload, flush, delimiter, response_end, most_data, most_line}

@@ -1,5 +1,5 @@
 -- What the values of the code stand for.
-use Rattle.std.specs.Prelude.{ℕ, ◌<◌, ◌≤◌, List, Some, None, Ok, Err, Option, Result}
+use Rattle.std.specs.Prelude.{ℕ, Ok, Err, Result}
 use Rattle.lines.specs.declared.Channel.{Channel}
 use Rattle.lines.specs.declared.Channel.TheVariants as channels
 use Rattle.lines.specs.declared.PacketLineRef.{PacketLineRef}

@@ -1,5 +1,6 @@
 //! Git packet lines without copying them: lines, their bands, and the faults of this layer.
 #![tactic(auto)]
+
 ghost use Rattle.std.specs.Prelude.{◌≡◌, Some, Decides};
 ghost use Rattle.std.specs.Option.{option_map};
 ghost use Rattle.lines.specs.Refusals.{number_of, value_of};

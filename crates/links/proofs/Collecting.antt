@@ -5,10 +5,10 @@ use borrow.Rule.Slice.PartMut.{put_mid}
 use Rattle.std.proofs.lemmas.List.{length-take-le, nil_from_length, length-map, length-append, take_all, append-nil, length-take, length-drop, drop_all, drop-drop, take_rest, take-append-drop}
 use Rattle.std.proofs.lemmas.Bool.{cases_lt}
 use Rattle.lines.specs.Refusals.{Refusal}
-use Rattle.links.specs.Refusals.{ended, source_faults}
-use Rattle.links.specs.Items.{Item, byte, interruption, fault, Effect, gives, passes, ends, effect}
+use Rattle.links.specs.Refusals.{ended}
+use Rattle.links.specs.Items.{Item, byte, interruption, passes, ends, effect}
 use Rattle.links.specs.Reads.{Gives, Spends, Reads}
-use Rattle.links.specs.Collect.{Collected, stops, behind, by_effect, collect, Collects}
+use Rattle.links.specs.Collect.{Collected, stops, behind, collect, Collects}
 use Rattle.links.specs.declared.source.SourceFault.{SourceFault}
 use Rattle.links.specs.declared.source.Given.{Given}
 use Rattle.links.specs.declared.source.Given.TheVariants.{Bytes, Interrupted}

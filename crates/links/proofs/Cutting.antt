@@ -1,17 +1,16 @@
 -- A prefix that was read, and the payload that it wants, are the first unit.
-use Rattle.std.proofs.Common.{◌≡◌, ℕ, zero, suc, ◌+◌, ◌-◌, ◌≤◌, List, [], ◌∷◌, ◌++◌, length, take, drop, Ok, Err, Result, sym, refl, ap, ◌∙◌, arith}
+use Rattle.std.proofs.Common.{◌≡◌, ℕ, zero, suc, ◌≤◌, List, [], ◌∷◌, ◌++◌, length, take, drop, Ok, Err, Result, sym, refl, ap, ◌∙◌, arith}
 use borrow.Rule.Slice.PartMut.{put_mid, post_of}
 use Rattle.std.proofs.lemmas.List.{length-take-le, length-append, take_at, drop_at, drop_all, append-nil}
 use Rattle.std.proofs.lemmas.Slice.{take-put_mid_below}
 use Rattle.lines.specs.Refusals.{Refusal}
-use Rattle.lines.specs.Format.{payload}
 use Rattle.lines.specs.Decoding.{Prefix, marks, wants, prefix, limited, Fits}
 use Rattle.lines.specs.Meaning.{decode_refusal}
 use Rattle.lines.specs.declared.decode.DecodeFault.{DecodeFault}
 use Rattle.links.specs.Items.{Item, Effect, gives, passes, ends, effect}
-use Rattle.links.specs.Collect.{Collected, stops, behind, by_effect, collect, Collects}
-use Rattle.links.specs.Cut.{UnitTaken, unit, line_if, by_prefix, by_answer, first_unit}
-use Rattle.links.specs.Meaning.{read_refusal, unit_refusal, marker_line, TakesUnit}
+use Rattle.links.specs.Collect.{Collected, by_effect, collect, Collects}
+use Rattle.links.specs.Cut.{UnitTaken, by_prefix, first_unit}
+use Rattle.links.specs.Meaning.{read_refusal, marker_line, TakesUnit}
 use Rattle.links.specs.declared.source.ReadFault.{ReadFault}
 use Rattle.links.specs.declared.unit.Marker.{Marker}
 use Rattle.links.specs.declared.unit.LineKind.TheVariants as kinds

@@ -1,13 +1,12 @@
 -- The cut divides every list in order.
-use Rattle.std.proofs.Common.{◌≡◌, ℕ, zero, suc, ◌+◌, ◌<◌, ◌≤◌, List, [], ◌∷◌, ◌++◌, map, length, Some, Ok, Err, Result, sym, refl, ap, ◌∙◌, append_assoc, append-nil, add-zero, arith, length-append}
+use Rattle.std.proofs.Common.{◌≡◌, ℕ, zero, suc, ◌+◌, ◌<◌, List, [], ◌∷◌, ◌++◌, map, length, Some, Ok, Err, Result, sym, refl, ap, ◌∙◌, append_assoc, append-nil, add-zero, arith}
 use mathlib.Core.List.{map-append}
 use Rattle.lines.specs.Refusals.{Refusal}
 use Rattle.hex_digits.specs.Digits.{length_field}
 use Rattle.lines.specs.Format.{Line, payload, flush, delimiter, response_end, Encodes}
 use Rattle.lines.specs.Decoding.{Prefix, marks, wants, announced, prefix, limited}
-use Rattle.links.specs.Refusals.{ended}
 use Rattle.links.specs.Items.{Item, byte, Effect, gives, passes, ends, effect}
-use Rattle.links.specs.Collect.{Collected, stops, behind, by_effect, collect}
+use Rattle.links.specs.Collect.{Collected, behind, by_effect, collect}
 use Rattle.links.specs.Cut.{UnitTaken, unit, line_if, by_prefix, by_answer, first_unit}
 use Rattle.links.specs.Laws.{kept, uninterrupted}
 use Rattle.hex_digits.proofs.Reading.{four_bytes}

@@ -4,10 +4,10 @@ use Rattle.std.proofs.lemmas.List.{append-nil, append_assoc, length-append, leng
 use Rattle.std.proofs.lemmas.Bool.{cases_lt}
 use Rattle.lines.specs.Refusals.{Refusal}
 use Rattle.links.specs.Refusals.{takes_none}
-use Rattle.links.specs.Items.{Effect, gives, passes, ends}
+use Rattle.links.specs.Items.{passes, ends}
 use Rattle.links.specs.Slots.{Slot, place, interrupts, slot_effect, Stand}
 use Rattle.links.specs.Writes.{Takes, Spends, Writes}
-use Rattle.links.specs.Send.{Sent, ceases, joined, slot_by, send, stand_behind, pushed, Sends}
+use Rattle.links.specs.Send.{Sent, ceases, joined, send, stand_behind, pushed, Sends}
 use Rattle.links.specs.declared.sink.SinkFault.{SinkFault}
 use Rattle.links.specs.declared.sink.Took.{Took}
 use Rattle.links.specs.declared.sink.Took.TheVariants.{Bytes, Interrupted}

@@ -1,10 +1,10 @@
 -- The cut: how a list of items is divided into units, each a line or a refusal.
-use Rattle.std.specs.Prelude.{◌≡◌, ℕ, zero, suc, List, [], ◌∷◌, Ok, Err, Result}
+use Rattle.std.specs.Prelude.{ℕ, zero, suc, List, [], ◌∷◌, Ok, Err, Result}
 use Rattle.lines.specs.Refusals.{Refusal}
 use Rattle.lines.specs.Format.{Line, payload}
 use Rattle.lines.specs.Decoding.{Prefix, marks, wants, prefix, limited}
 use Rattle.links.specs.Items.{Item}
-use Rattle.links.specs.Collect.{Collected, collect}
+use Rattle.links.specs.Collect.{collect}
 
 -- a unit: its line or its refusal, and what is left of the list behind it
 pub record UnitTaken : Type 0 where

@@ -1,5 +1,6 @@
 //! What gives bytes and what takes them, by their meaning, and one unit taken from what gives.
 #![tactic(auto)]
+
 pub mod memory;
 pub mod sink;
 pub mod source;

@@ -3,7 +3,7 @@ use Rattle.std.specs.Prelude.{◌≡◌, ℕ, true, false, List, map, Some, None
 use Rattle.lines.specs.Refusals.{Refusal, refused}
 use Rattle.lines.specs.Format.{Line, payload, flush}
 use Rattle.links.specs.Items.{Item, byte}
-use Rattle.rules.specs.Readers.{Stops, Reader, View, the_line, the_message, ready, new_reader, verdict, answer, shown, read_phase, peek_phase, left_in, after}
+use Rattle.rules.specs.Readers.{Stops, Reader, the_line, the_message, ready, new_reader, verdict, answer, shown, read_phase, peek_phase, left_in, after}
 use Rattle.rules.specs.Readers.{reset, reset_with, fail_on_err_lines, edited_in, edit_answer, edit_after, replaced, stopped_at}
 
 -- Runs

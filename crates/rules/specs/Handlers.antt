@@ -1,5 +1,5 @@
 -- Handlers: who is told the texts of a session.
-use Rattle.std.specs.Prelude.{ℕ, ◌+◌, ◌/◌, ◌%◌, min, Bool, true, false, cond, ◌||◌, List, [], ◌∷◌, ◌++◌, length, drop, nat_lt}
+use Rattle.std.specs.Prelude.{ℕ, ◌+◌, ◌/◌, ◌%◌, min, Bool, true, false, ◌||◌, List, ◌∷◌, ◌++◌, length, drop, nat_lt}
 
 -- a text comes on the band of progress or on that of errors
 pub data TextBand : Type 0 where

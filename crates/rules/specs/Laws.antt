@@ -1,5 +1,5 @@
 -- What holds of every reader, whatever is called.
-use Rattle.std.specs.Prelude.{◌≡◌, ℕ, Bool, List, Option, Result}
+use Rattle.std.specs.Prelude.{ℕ, Bool, List, Option, Result}
 use Rattle.lines.specs.Refusals.{Refusal}
 use Rattle.lines.specs.Format.{Line}
 use Rattle.links.specs.Items.{Item}

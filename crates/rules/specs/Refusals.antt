@@ -1,5 +1,5 @@
 -- The refusals of reader and sessions, by the numbers of docs/REFUSALS.md.
-use Rattle.std.specs.Prelude.{Some, None}
+use Rattle.std.specs.Prelude.{None}
 use Rattle.lines.specs.Refusals.{Refusal, refused}
 
 -- an ERR line while the flag is on; its message is shown by the view

@@ -6,7 +6,7 @@ use Rattle.lines.specs.Format.{Line, payload, flush, delimiter, response_end, pa
 use Rattle.links.specs.Items.{Item}
 use Rattle.rules.specs.Refusals.{error_line, handler_stops, marker_in_data, window_open, not_text, no_room}
 use Rattle.rules.specs.Handlers.{TextBand, progress, error, Rule}
-use Rattle.rules.specs.Readers.{Reader, Verdict, idle, stop, hand, fail, refuse, verdict, answer, left_in, read_after, peek_after, ReadLine, reset, reset_with}
+use Rattle.rules.specs.Readers.{Reader, Verdict, idle, stop, hand, fail, refuse, verdict, answer, left_in, read_after, peek_after, ReadLine, reset}
 
 -- Places
 

@@ -1,5 +1,6 @@
 //! The rules of every call, as definitions, with their proofs.
 #![tactic(auto)]
+
 ghost use Rattle.rules.specs.Laws.{StaysSound};
 ghost use Rattle.rules.specs.Examples.{Examples};
 

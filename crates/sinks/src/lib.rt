@@ -1,5 +1,6 @@
 //! Sinks over lent memory.
 #![tactic(auto)]
+
 pub mod memory;
 pub mod send;
 pub mod trace;

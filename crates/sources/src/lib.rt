@@ -1,5 +1,6 @@
 //! Sources over lent bytes.
 #![tactic(auto)]
+
 pub mod memory;
 pub mod trace;
 

@@ -3,7 +3,7 @@ use Rattle.std.proofs.Common.{◌≡◌, ℕ, zero, suc, ◌+◌, ◌-◌, ◌<�
 use Rattle.std.proofs.lemmas.List.{take_rest}
 use Rattle.std.proofs.lemmas.Bool.Decides.{nat_tests}
 use Rattle.utf8.proofs.Blocks.{more_ascii}
-use Rattle.utf8.specs.Rfc3629.{In, Tail, Three, Four, Octets, none, utf8_1, utf8_2, utf8_3, utf8_4}
+use Rattle.utf8.specs.Rfc3629.{In, Three, Four, Octets, none, utf8_1, utf8_2, utf8_3, utf8_4}
 use Rattle.utf8.specs.Fronts.{StartsTwo, StartsThree, StartsFour, NoCharacter, Alike, Whole, AsciiFront}
 
 three_lead : (a b : ℕ) → Three a b → In 224 239 a

@@ -1,7 +1,7 @@
-use Rattle.std.proofs.Common.{◌≡◌, ◌≤◌, Ok, Err, sym, refl, arith, length-drop, rules}
+use Rattle.std.proofs.Common.{◌≡◌, ◌≤◌, Ok, refl, arith, length-drop, rules}
 use Rattle.lines.specs.Decoding.{complete, incomplete, streamed}
 use Rattle.lines.specs.Meaning.{line_of}
-use Rattle.captures.specs.Tallies.{Decodes, begins, goes_on}
+use Rattle.captures.specs.Tallies.{begins, goes_on}
 use Rattle.captures.proofs.Totals.{unread, rest_streamed, within}
 use Rattle.captures.proofs.tally.tally_of.Goals as goal
 

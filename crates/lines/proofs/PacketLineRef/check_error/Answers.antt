@@ -1,4 +1,4 @@
-use Rattle.std.proofs.Common.{◌≡◌, sym, ap, ◌∙◌, arith, rules}
+use Rattle.std.proofs.Common.{sym, ap, ◌∙◌, arith, rules}
 use Rattle.lines.specs.Format.{and_then, message}
 use Rattle.lines.proofs.Payloads.{message_rest}
 use Rattle.lines.proofs.PacketLineRef.check_error.Goals as goal

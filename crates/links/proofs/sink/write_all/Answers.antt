@@ -1,4 +1,4 @@
-use Rattle.std.proofs.Common.{◌≡◌, refl, arith, rules}
+use Rattle.std.proofs.Common.{refl, arith, rules}
 use Rattle.std.proofs.lemmas.Result.{err_from_is_err_and}
 use Rattle.links.specs.Slots.{interrupts}
 use Rattle.links.proofs.Sending.{sends_as, goes_on, passes_over, faults, takes_no_more, all_sent, takes_falls, writes_interrupted, writes_bytes}

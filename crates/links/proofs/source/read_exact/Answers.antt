@@ -1,4 +1,4 @@
-use Rattle.std.proofs.Common.{◌≡◌, refl, arith, rules}
+use Rattle.std.proofs.Common.{refl, arith, rules}
 use Rattle.std.proofs.lemmas.Result.{err_from_is_err_and}
 use Rattle.links.specs.Items.{interruption}
 use Rattle.links.proofs.Collecting.{collects, goes_on, falls, passes_over, faults, runs_out, full, reads_interrupted, reads_bytes}

@@ -1,4 +1,4 @@
-use Rattle.std.proofs.Common.{◌<◌, ◌≤◌, length, string_bytes, rules}
+use Rattle.std.proofs.Common.{string_bytes, rules}
 use Rattle.pktline.proofs.Words.{file_none, file_option, file_alone, file_second}
 use Rattle.pktline.proofs.command.file_command.Goals as goal
 

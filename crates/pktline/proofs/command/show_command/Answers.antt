@@ -1,4 +1,4 @@
-use Rattle.std.proofs.Common.{length, string_bytes, sym, ◌∙◌, rules}
+use Rattle.std.proofs.Common.{string_bytes, sym, ◌∙◌, rules}
 use Rattle.std.proofs.lemmas.Slice.Eq.{slice_eq-Decides}
 use Rattle.std.proofs.lemmas.Bool.Decides.{Decides-eqb}
 use Rattle.pktline.proofs.Words.{show_none, show_bands, show_other, unlike}

@@ -1,5 +1,5 @@
-use Rattle.std.proofs.Common.{◌≡◌, ◌≤◌, length, vec_items, rules}
-use Rattle.replay.proofs.Pairs.{one_more, no_pair, no_more, one_left}
+use Rattle.std.proofs.Common.{◌≤◌, length, vec_items, rules}
+use Rattle.replay.proofs.Pairs.{one_more}
 use Rattle.replay.proofs.terms.parse_pairs.Goals as goal
 
 pub loop-rest-preserved : goal.loop-rest-preserved
