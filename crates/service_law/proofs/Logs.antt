@@ -1,21 +1,19 @@
 -- The law holds of every service, and loses nothing of it.
-use Rattle.std.proofs.Common.{◌≡◌, ℕ, Bool, true, false, eqb, List, [], ◌∷◌, ◌++◌, length, take, Some, None, Ok, Err, Option, Result, sym, refl, ap, ◌∙◌, subst, ap₂, append_assoc, append-nil}
-use Rattle.lines.specs.Refusals.{Refusal}
-use Rattle.lines.specs.Format.{Line, payload}
+use Rattle.std.proofs.Common.{◌≡◌, ℕ, List, [], ◌∷◌, ◌++◌, sym, refl, ap, ◌∙◌, subst, ap₂}
 use Rattle.links.specs.Items.{Item}
 use Rattle.rules.specs.Handlers.{Rule}
-use Rattle.rules.specs.Readers.{Stops, nothing, Phase, ready, holds, stopped, failed, View, Reader}
-use Rattle.rules.specs.Sessions.{Window, no_window, Session, Filling, Filled}
+use Rattle.rules.specs.Readers.{Stops}
+use Rattle.rules.specs.Sessions.{Filling}
 use Rattle.service_law.specs.Calls.{Plain, Call, plain, handed, Answer, filled, no_handler, State, new_service, answered, after_plain, Step, Runs, handler_at}
 use Rattle.service_law.specs.Calls as calls
 use Rattle.service_law.specs.Marks.{Standing, free, has, done, UnitMark, UnitsGo, taken, standing, viewed, given_to_windows, WindowMark, WindowsGo, used}
 use Rattle.service_law.specs.Marks as life
 use Rattle.service_law.specs.Law.{Entry, said, unit_marks, window_marks, Terms, terms_after, terms_behind, terms_of, Lawful, AllLawful, UnitsInOrder, BandRule, Law, Accounted, LawHolds}
 use Rattle.service_law.specs.Law as law
-use Rattle.service_law.proofs.Units.{taken_append, given_append, viewed_append, units_append, units_split, units_fixed, Cut, cut_append, cut_split, cut_units, units_cut, reported_as_edited}
-use Rattle.service_law.proofs.Windows.{windows_append, windows_split, windows_fixed, opened_bytes, opened_append, in_order}
+use Rattle.service_law.proofs.Units.{taken_append, given_append, viewed_append, units_append, Cut, cut_append, cut_units, reported_as_edited}
+use Rattle.service_law.proofs.Windows.{windows_append, opened_bytes, opened_append, in_order}
 use Rattle.service_law.proofs.Steps.{Sound, Accounts, plain_units, plain_windows, plain_accounts, plain_lawful}
-use Rattle.service_law.proofs.Openings.{unmoved, filled_accounts, behind_filling}
+use Rattle.service_law.proofs.Openings.{unmoved, filled_accounts}
 
 -- what a list of calls does, from one state to another
 pub record Logged {H : Type 0} (rule : Rule H) (a : State H) (log : List Entry) (b : State H) : Type 0 where

@@ -1,11 +1,11 @@
 -- What the calls that fill do to units, windows and handlers; and that the law lets fill_buf do nothing else.
-use Rattle.std.proofs.Common.{◌≡◌, ℕ, zero, suc, ◌+◌, ◌-◌, ◌<◌, ◌≤◌, Bool, true, false, cond, eqb, ltb, List, [], ◌∷◌, ◌++◌, length, take, drop, Some, None, Ok, Err, Result, sym, refl, ap, ◌∙◌, subst, append_assoc, append-nil, arith}
+use Rattle.std.proofs.Common.{◌≡◌, ℕ, zero, suc, ◌<◌, ◌≤◌, Bool, true, false, List, [], ◌∷◌, ◌++◌, length, take, Some, Ok, Err, Result, sym, refl, ap, ◌∙◌, subst, append-nil, arith}
 use mathlib.Core.Bool.{false≢true}
 use Rattle.std.proofs.lemmas.Bool.{ltb-true, ltb-false, lt-ltb, le-ltb}
 use Rattle.lines.specs.Refusals.{Refusal}
 use Rattle.links.specs.Items.{Item}
 use Rattle.rules.specs.Handlers.{Rule}
-use Rattle.rules.specs.Readers.{Stops, Phase, View, Reader}
+use Rattle.rules.specs.Readers.{Stops, Reader}
 use Rattle.rules.specs.Sessions.{Place, to_caller, to_window, to_handler, to_none, to_refusal, dropped, way_of, Window, Session, with_window, fill_answer, fill_window, FillBuf, Filling, fill_buf, read, read_line_to_string, Filled, refuses, Uses, FillingCall, stands_open}
 use Rattle.rules.specs.Sessions as sessions
 use Rattle.service_law.specs.Calls.{Call, handed, filled, handler_at, at_index, State}
@@ -226,7 +226,7 @@ module _ {H : Type 0} (rule : Rule H) where
     refused_accounts (state_of inside hs s₀ items) k c h q i e,
     subst (λ x. Lawful rule (terms_in inside hs s₀) (handed k c) (filled x) [] (seen s₀.window ∷ [])) (sym r) (law.finds_window e t),
   )
-  filled_accounts k c inside hs {s₀} {items = items} {rest = rest} {h = h} {h' = h'} {f = f} q i e (sessions.FillingCall.Fills-first {s' = s} {u = u} {w = w} t b n r) =
+  filled_accounts k c inside hs {s₀} {items = items} {rest = rest} {h = h} {h' = h'} {f = f} q i e (sessions.FillingCall.fills_first {s' = s} {u = u} {w = w} t b n r) =
       let o = opening inside hs q.shows_held q.long b in
       let v = window_used o.2.long o.2.bytes n in (
         o.0,
@@ -282,7 +282,7 @@ module _ {H : Type 0} (rule : Rule H) where
       let n' : Uses c u o.0.window f w'' = subst (λ z. Uses c u z f w'') o.5 n in
       let b = behind_filling a k o.2 (with_window o.0 w'') o.1 in (
         b,
-        Rattle.service_law.specs.Calls.Step.with_handler i e (sessions.FillingCall.Fills-first (subst (λ z. stands_open c z ≡ false) (sym ew) t) o.3 n' refl) refl,
+        Rattle.service_law.specs.Calls.Step.with_handler i e (sessions.FillingCall.fills_first (subst (λ z. stands_open c z ≡ false) (sym ew) t) o.3 n' refl) refl,
         subst (λ z. Accounts rule a (handed k c) us (seen z ∷ (ws ++ use_marks c u f)) b) ew
             (filling_accounts a k c h o.2 us ws u o.0 o.1 f w'' i e o.4 (window_used o.4.long o.4.bytes n')),
       )

@@ -1,18 +1,18 @@
 -- What one read_line and one peek_line do to units; and that the law lets them do nothing else.
 use Rattle.std.proofs.Common.{◌≡◌, ℕ, Bool, true, false, cond, ◌&&◌, eqb, leb, List, [], ◌∷◌, ◌++◌, Some, None, Ok, Err, Option, Result, sym, refl, ap, ◌∙◌, subst, append-nil}
 use Rattle.lines.specs.Refusals.{Refusal, unknown_band}
-use Rattle.lines.specs.Format.{Line, payload, flush, delimiter, response_end, and_then, payload_of, message, text, Band, on, line_band}
+use Rattle.lines.specs.Format.{Line, payload, flush, delimiter, response_end, and_then, payload_of, message, text, on, line_band}
 use Rattle.links.specs.Items.{Item}
 use Rattle.links.specs.Cut.{first_unit}
 use Rattle.rules.specs.Handlers.{Rule, progress, error}
 use Rattle.rules.specs.Readers.{Stops, stops_at, View, nothing, the_line, Phase, ready, holds, stopped, failed, Verdict, idle, stop, hand, fail, refuse, by_flag, judged, verdict_in, left_in, answer, read_phase, peek_phase}
 use Rattle.rules.specs.Readers as readers
-use Rattle.rules.specs.Sessions.{Place, to_caller, to_window, to_handler, to_none, to_refusal, dropped, Way, whole, by_bands, as_data, data_place, band_place, plain_place, band_rule, destination, moved}
+use Rattle.rules.specs.Sessions.{Place, to_handler, to_none, Way, whole, by_bands, as_data, data_place, band_place, plain_place, band_rule, destination, moved}
 use Rattle.service_law.specs.Marks.{Piece, Standing, free, has, done, UnitMark, took, shown, edited, reported, found, resumed, behind, UnitGoes, UnitsGo, at_end, next, taken, standing, view_at, viewed, message_view, place_bytes, given_to_windows, told}
 use Rattle.service_law.specs.Marks as life
 use Rattle.service_law.specs.Law.{ReadBy, PeekBy, peeked, answer_at}
 use Rattle.service_law.specs.Law as law
-use Rattle.service_law.proofs.Units.{Cut, Start, starts}
+use Rattle.service_law.proofs.Units.{Cut, starts}
 
 -- A line that is handed on
 

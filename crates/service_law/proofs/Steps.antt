@@ -1,11 +1,9 @@
 -- What each call of a service does to units, windows and handlers.
-use Rattle.std.proofs.Common.{◌≡◌, ℕ, zero, suc, ◌+◌, ◌-◌, ◌<◌, ◌≤◌, min, Bool, true, false, cond, eqb, ltb, List, [], ◌∷◌, ◌++◌, length, take, drop, Some, None, Ok, Err, Option, Result, sym, refl, ap, ◌∙◌, subst, ap₂, append-nil, arith, length-drop, take-append-drop}
+use Rattle.std.proofs.Common.{◌≡◌, ℕ, zero, suc, ◌+◌, ◌-◌, ◌<◌, ◌≤◌, min, Bool, true, false, cond, eqb, ltb, List, [], ◌∷◌, length, take, drop, Some, None, Ok, Option, sym, refl, ap, ◌∙◌, subst, arith, length-drop, take-append-drop}
 use mathlib.Core.Bool.{false≢true}
 use Rattle.std.proofs.lemmas.Bool.{ltb-true, ltb-false}
-use Rattle.lines.specs.Refusals.{Refusal}
 use Rattle.lines.specs.Format.{Line, payload, flush, delimiter, response_end}
 use Rattle.links.specs.Items.{Item}
-use Rattle.rules.specs.Refusals.{window_open}
 use Rattle.rules.specs.Handlers.{Rule}
 use Rattle.rules.specs.Readers.{Stops, View, the_line, Phase, ready, holds, stopped, failed, Reader, Verdict, idle, stop, hand, fail, refuse, verdict_in, verdict, answer, shortened, edited_line, edited_in, edit_answer, edit_after, peek_phase, read_phase, read_after, peek_after, left_in}
 use Rattle.rules.specs.Readers as readers
@@ -20,9 +18,9 @@ use Rattle.service_law.specs.Marks as life
 use Rattle.service_law.specs.Law.{Terms, terms_after, terms_of, NoEdit, marker_of, Opens, window_mark, use_marks, Lawful}
 use Rattle.service_law.specs.Law as law
 use Rattle.service_law.proofs.Units.{Cut}
-use Rattle.service_law.proofs.Windows.{windows_append, opened_bytes, opened_append}
+use Rattle.service_law.proofs.Windows.{opened_bytes}
 use Rattle.service_law.proofs.Reading.{read_marks, read_lives, read_cuts, read_shows, read_gives, read_by, answers_at, whole_gives, peek_marks, peek_lives, peek_cuts, peek_shows, peek_gives, peek_by}
-use Rattle.service_law.proofs.Filling.{HoldsNone, reads_none, idle_held, Reads, fill_reads}
+use Rattle.service_law.proofs.Filling.{HoldsNone, reads_none, idle_held}
 
 -- In every service the view shows the held line, a window has the bytes from pos to cap, and outside a session there is none
 

@@ -1,11 +1,11 @@
 -- The life of units: joined, taken apart, and what it says of the lists of those taken and reported.
-use Rattle.std.proofs.Common.{◌≡◌, ℕ, zero, suc, ◌<◌, Bool, true, false, cond, eqb, List, [], ◌∷◌, ◌++◌, length, Some, None, Ok, Err, Option, sym, refl, ap, ◌∙◌, subst, ap₂, append_assoc}
-use Rattle.lines.specs.Refusals.{Refusal, number_of}
-use Rattle.lines.specs.Format.{Line, payload}
+use Rattle.std.proofs.Common.{◌≡◌, ℕ, ◌<◌, Bool, true, false, cond, eqb, List, [], ◌∷◌, ◌++◌, length, None, Ok, Err, sym, refl, ap, ◌∙◌, subst, ap₂, append_assoc}
+use Rattle.lines.specs.Refusals.{number_of}
+use Rattle.lines.specs.Format.{payload}
 use Rattle.links.specs.Items.{Item}
 use Rattle.links.specs.Cut.{first_unit, units, after}
 use Rattle.rules.specs.Handlers.{Rule}
-use Rattle.rules.specs.Readers.{View, Phase, ready, holds, stopped, failed, shortened}
+use Rattle.rules.specs.Readers.{View, Phase, ready, holds, stopped, failed}
 use Rattle.rules.specs.Sessions.{Place, to_caller, to_window, to_handler, to_none, to_refusal, dropped, moved}
 use Rattle.service_law.specs.Marks.{Piece, Standing, free, has, done, UnitMark, took, shown, edited, reported, found, resumed, refused_behind, behind, released, UnitGoes, UnitsGo, at_end, next}
 use Rattle.service_law.specs.Marks.{taken, reports_of, edit_unit, edits_on, as_edited, standing, held, edited_view, standing_view, view_at, viewed, place_bytes, given_to_windows, told}

@@ -3,7 +3,7 @@ use Rattle.std.specs.Prelude.{◌≡◌, ℕ, ◌-◌, ◌<◌, cond, List, [], 
 use Rattle.lines.specs.Refusals.{Refusal, number_of}
 use Rattle.lines.specs.Format.{Line, payload, flush, delimiter, response_end, and_then, payload_of, message}
 use Rattle.rules.specs.Handlers.{Rule}
-use Rattle.rules.specs.Readers.{View, nothing, the_line, the_message, Phase, ready, holds, stopped, failed, shortened, edited_line}
+use Rattle.rules.specs.Readers.{View, nothing, the_line, the_message, Phase, ready, holds, stopped, failed, shortened}
 use Rattle.rules.specs.Sessions.{Place, to_caller, to_window, to_handler, to_none, to_refusal, dropped, Window, no_window, window_at, moved}
 
 -- a unit of the cut: a line, or a refusal

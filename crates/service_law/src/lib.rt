@@ -1,10 +1,14 @@
 //! The law of a service, as definitions, with its proofs.
 #![tactic(auto)]
+
+ghost use Rattle.rules.specs.Handlers.{quiet, strict, log};
 ghost use Rattle.service_law.specs.Law.{LawHolds};
 
-/// Nothing yet.
+/// Carries the law, at each of the handlers: it holds of every service, after its making and after each call.
 pub fn service_law_holds() -> u8
-    ensures { Unit {0} }
+    ensures of_quiet { LawHolds quiet }
+    ensures of_strict { LawHolds strict }
+    ensures of_log { LawHolds log }
 {
     0
 }
