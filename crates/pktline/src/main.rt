@@ -67,7 +67,7 @@ fn main(rt: HostRuntime) -> ExitCode {
     }
 }
 
-/// Says why, and ends the program with status 1.
+/// Says why on standard error, and answers the status 1.
 fn fail(rt: &HostRuntime, why: impl Display + Drop) -> ExitCode {
     let _ = eprintln!(rt; "pktline: {why}");
     ExitCode::FAILURE

@@ -55,7 +55,8 @@ fn replay(rt: &HostRuntime) -> Result<(), Failure> {
     let heap = rt.alloc();
     let mut out = BufWriter::new(heap, rt.stdout())?;
     let mut number = 0u64;
-    for line in BufReader::new(heap, rt.stdin())?.lines(heap) {
+    let script = BufReader::new(heap, rt.stdin()).map_err(|e| Failure::Input(1, e))?;
+    for line in script.lines(heap) {
         // No input is so long that the number stays behind.
         number = number.saturating_add(1);
         let line = match line {
