@@ -3,7 +3,7 @@
 
 usage: python3 tools/port-names.py [--list]     at the top of the repository, once, after the kit's port.py
 
-A name is taken where a file of specs/ or proofs/ declares it (a definition, lemma, type, constructor, field, or a name of `where`, `let`, a pattern or a
+A name is taken where a file of specs/ or proofs/ declares it (a definition, lemma, type, constructor, field, or a name of `where`, `let` or a
 binder). The goals that Rattle names stay as they are, and so do names of the library. In a source file only clauses, ghost items and `ghost use` lines are
 turned. Comments, strings and Rust code stay. With --list it only prints the table, and which names fall together.
 """

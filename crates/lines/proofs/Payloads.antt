@@ -1,9 +1,9 @@
 -- What a payload is made of, and how it comes apart.
 use Rattle.std.proofs.Common.{◌≡◌, ℕ, ◌-◌, ◌<◌, ◌≤◌, true, cond, ◌&&◌, leb, List, [], ◌∷◌, ◌++◌, length, get_or, take, drop, Some, Ok, Err, codes, refl, arith, length-append}
-use lib.Seq.{take-append_seam, get_or_at}
+use Rattle.std.proofs.Math.Seq.{take-append_seam}
 use Rattle.std.proofs.lemmas.Bool.Decides.{nat_tests}
 use Rattle.std.proofs.lemmas.Bool.{le-leb}
-use Rattle.std.proofs.lemmas.List.{take_rest}
+use Rattle.std.proofs.lemmas.List.{take_rest, get_or_at}
 use Rattle.lines.specs.Refusals.{unknown_band}
 use Rattle.lines.specs.Format.{message, text, band, on}
 

@@ -1,6 +1,7 @@
 -- How a collection goes on from read to read.
-use Rattle.std.proofs.Common.{◌≡◌, ℕ, zero, suc, ◌+◌, ◌-◌, ◌<◌, ◌≤◌, List, [], ◌∷◌, ◌++◌, map, length, take, drop, Ok, Err, Result, sym, refl, ap, ◌∙◌, inl, inr, append_assoc, suc-add, zero-add, arith}
-use lib.Seq.{take-append-add, drop-append-add}
+use Rattle.std.proofs.Common.{◌≡◌, ℕ, zero, suc, ◌+◌, ◌-◌, ◌<◌, ◌≤◌, List, [], ◌∷◌, ◌++◌, map, length, take}
+use Rattle.std.proofs.Common.{drop, Ok, Err, Result, sym, refl, ap, ◌∙◌, inl, inr, append_assoc, suc-add, zero-add, arith}
+use Rattle.std.proofs.Math.Seq.{take-append-add, drop-append-add}
 use borrow.Rule.Slice.PartMut.{put_mid}
 use Rattle.std.proofs.lemmas.List.{length-take-le, nil_from_length, length-map, length-append, take_all, append-nil, length-take, length-drop, drop_all, drop-drop, take_rest, take-append-drop}
 use Rattle.std.proofs.lemmas.Bool.{cases_lt}

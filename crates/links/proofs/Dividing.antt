@@ -1,6 +1,6 @@
 -- The cut divides every list in order.
 use Rattle.std.proofs.Common.{◌≡◌, ℕ, zero, suc, ◌+◌, ◌<◌, List, [], ◌∷◌, ◌++◌, map, length, Some, Ok, Err, Result, sym, refl, ap, ◌∙◌, append_assoc, append-nil, add-zero, arith}
-use mathlib.Core.List.{map-append}
+use Rattle.std.proofs.lemmas.List.{map-append}
 use Rattle.lines.specs.Refusals.{Refusal}
 use Rattle.hex_digits.specs.Digits.{length_field}
 use Rattle.lines.specs.Format.{Line, payload, flush, delimiter, response_end, Encodes}

@@ -1,6 +1,6 @@
 -- What a fill does to units and to its handler; and that the law lets it do nothing else.
 use Rattle.std.proofs.Common.{◌≡◌, Bool, true, List, [], ◌++◌, Option, Result, sym, refl, ap, ◌∙◌, subst, ap₂, append_assoc}
-use mathlib.Core.Bool.{false≢true}
+use Rattle.std.proofs.lemmas.Bool.{false≢true}
 use Rattle.lines.specs.Refusals.{Refusal}
 use Rattle.lines.specs.Format.{Line}
 use Rattle.links.specs.Items.{Item}

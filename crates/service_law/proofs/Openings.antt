@@ -1,12 +1,12 @@
 -- What the calls that fill do to units, windows and handlers; and that the law lets fill_buf do nothing else.
 use Rattle.std.proofs.Common.{◌≡◌, ℕ, zero, suc, ◌<◌, ◌≤◌, Bool, true, false, List, [], ◌∷◌, ◌++◌, length, take, Some, Ok, Err, Result, sym, refl, ap, ◌∙◌, subst, append-nil, arith}
-use mathlib.Core.Bool.{false≢true}
-use Rattle.std.proofs.lemmas.Bool.{ltb-true, ltb-false, lt-ltb, le-ltb}
+use Rattle.std.proofs.lemmas.Bool.{ltb-true, ltb-false, lt-ltb, le-ltb, false≢true}
 use Rattle.lines.specs.Refusals.{Refusal}
 use Rattle.links.specs.Items.{Item}
 use Rattle.rules.specs.Handlers.{Rule}
 use Rattle.rules.specs.Readers.{Stops, Reader}
-use Rattle.rules.specs.Sessions.{Place, to_caller, to_window, to_handler, to_none, to_refusal, dropped, way_of, Window, Session, with_window, fill_answer, fill_window, FillBuf, Filling, fill_buf, read, read_line_to_string, Filled, refuses, Uses, FillingCall, stands_open}
+use Rattle.rules.specs.Sessions.{Place, to_caller, to_window, to_handler, to_none, to_refusal, dropped, way_of, Window, Session, with_window, fill_answer}
+use Rattle.rules.specs.Sessions.{fill_window, FillBuf, Filling, fill_buf, read, read_line_to_string, Filled, refuses, Uses, FillingCall, stands_open}
 use Rattle.rules.specs.Sessions as sessions
 use Rattle.service_law.specs.Calls.{Call, handed, filled, handler_at, at_index, State}
 use Rattle.service_law.specs.Marks.{Standing, UnitMark, UnitsGo, taken, standing, viewed, place_bytes, given_to_windows, told}

@@ -8,7 +8,8 @@ use Rattle.rules.specs.Handlers.{Rule, progress, error}
 use Rattle.rules.specs.Readers.{Stops, stops_at, View, nothing, the_line, Phase, ready, holds, stopped, failed, Verdict, idle, stop, hand, fail, refuse, by_flag, judged, verdict_in, left_in, answer, read_phase, peek_phase}
 use Rattle.rules.specs.Readers as readers
 use Rattle.rules.specs.Sessions.{Place, to_handler, to_none, Way, whole, by_bands, as_data, data_place, band_place, plain_place, band_rule, destination, moved}
-use Rattle.service_law.specs.Marks.{Piece, Standing, free, has, done, UnitMark, took, shown, edited, reported, found, resumed, behind, UnitGoes, UnitsGo, at_end, next, taken, standing, view_at, viewed, message_view, place_bytes, given_to_windows, told}
+use Rattle.service_law.specs.Marks.{Piece, Standing, free, has, done, UnitMark, took, shown, edited, reported, found, resumed, behind}
+use Rattle.service_law.specs.Marks.{UnitGoes, UnitsGo, at_end, next, taken, standing, view_at, viewed, message_view, place_bytes, given_to_windows, told}
 use Rattle.service_law.specs.Marks as life
 use Rattle.service_law.specs.Law.{ReadBy, PeekBy, peeked, answer_at}
 use Rattle.service_law.specs.Law as law

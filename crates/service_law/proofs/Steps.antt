@@ -1,13 +1,15 @@
 -- What each call of a service does to units, windows and handlers.
-use Rattle.std.proofs.Common.{◌≡◌, ℕ, zero, suc, ◌+◌, ◌-◌, ◌<◌, ◌≤◌, min, Bool, true, false, cond, eqb, ltb, List, [], ◌∷◌, length, take, drop, Some, None, Ok, Option, sym, refl, ap, ◌∙◌, subst, arith, length-drop, take-append-drop}
-use mathlib.Core.Bool.{false≢true}
-use Rattle.std.proofs.lemmas.Bool.{ltb-true, ltb-false}
+use Rattle.std.proofs.Common.{◌≡◌, ℕ, zero, suc, ◌+◌, ◌-◌, ◌<◌, ◌≤◌, min, Bool, true, false, cond, eqb, ltb, List, []}
+use Rattle.std.proofs.Common.{◌∷◌, length, take, drop, Some, None, Ok, Option, sym, refl, ap, ◌∙◌, subst, arith, length-drop, take-append-drop}
+use Rattle.std.proofs.lemmas.Bool.{ltb-true, ltb-false, false≢true}
 use Rattle.lines.specs.Format.{Line, payload, flush, delimiter, response_end}
 use Rattle.links.specs.Items.{Item}
 use Rattle.rules.specs.Handlers.{Rule}
-use Rattle.rules.specs.Readers.{Stops, View, the_line, Phase, ready, holds, stopped, failed, Reader, Verdict, idle, stop, hand, fail, refuse, verdict_in, verdict, answer, shortened, edited_line, edited_in, edit_answer, edit_after, peek_phase, read_phase, read_after, peek_after, left_in}
+use Rattle.rules.specs.Readers.{Stops, View, the_line, Phase, ready, holds, stopped, failed, Reader, Verdict, idle, stop, hand, fail}
+use Rattle.rules.specs.Readers.{refuse, verdict_in, verdict, answer, shortened, edited_line, edited_in, edit_answer, edit_after, peek_phase, read_phase, read_after, peek_after, left_in}
 use Rattle.rules.specs.Readers as readers
-use Rattle.rules.specs.Sessions.{Place, to_caller, to_window, to_handler, to_none, to_refusal, dropped, whole, way_of, Window, no_window, Session, with_window, data_line_answer, fill_answer, fill_window, FillBuf, Filling, fill_buf, read, read_line_to_string, Filled, refuses, Uses, FillingCall, stands_open}
+use Rattle.rules.specs.Sessions.{Place, to_caller, to_window, to_handler, to_none, to_refusal, dropped, whole, way_of, Window, no_window, Session, with_window}
+use Rattle.rules.specs.Sessions.{data_line_answer, fill_answer, fill_window, FillBuf, Filling, fill_buf, read, read_line_to_string, Filled, refuses, Uses, FillingCall, stands_open}
 use Rattle.rules.specs.Sessions as sessions
 use Rattle.service_law.specs.Calls.{Plain, read_line, peek_line, replace_and_truncate, reset, reset_with, fail_on_err_lines, stopped_at, begin, leave, set_progress_handler, consume, read_data_line, peek_data_line}
 use Rattle.service_law.specs.Calls.{Call, plain, handed, Answer, line, edit, filled, no_handler, handler_at, at_index, State, answered, after_plain, Step}

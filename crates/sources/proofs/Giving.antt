@@ -1,7 +1,6 @@
 -- Bytes copied from the front of a list of bytes are what a read may give, whatever comes behind that list.
 use Rattle.std.proofs.Common.{◌≡◌, ℕ, ◌<◌, min, List, [], ◌++◌, map, length, take, drop, sym, refl, ap, ◌∙◌, subst, append_assoc, append-nil, arith}
-use mathlib.Core.List.{map-append}
-use Rattle.std.proofs.lemmas.List.{length-map, length-take-le, take_at, drop_at, take-append-drop}
+use Rattle.std.proofs.lemmas.List.{length-map, length-take-le, take_at, drop_at, take-append-drop, map-append}
 use Rattle.links.specs.Items.{Item, byte}
 use Rattle.links.specs.Reads.{Gives}
 

@@ -1,12 +1,13 @@
 -- Runs of ASCII: what the high bits of a block tell, and block after block.
-use Rattle.std.proofs.Common.{◌≡◌, ℕ, zero, suc, ◌+◌, ◌-◌, ◌%◌, ◌^◌, ◌<◌, ◌≤◌, Bool, cond, not, leb, ◌⊎◌, List, [], ◌∷◌, map, length, get_or, take, drop, replicate, sym, refl, ap, ◌∙◌, subst, inl, inr, arith, length-drop, w8}
-use lib.Bits.{bit_or, or_add_and, and_le_l, and_le_r}
-use lib.Count.{count_trailing_zeros}
-use lib.Lanes.{mask_l, zip2, top}
-use lib.ListN.{length-map}
+use Rattle.std.proofs.Common.{◌≡◌, ℕ, zero, suc, ◌+◌, ◌-◌, ◌%◌, ◌^◌, ◌<◌, ◌≤◌, Bool, cond, not, leb, ◌⊎◌, List, []}
+use Rattle.std.proofs.Common.{◌∷◌, map, length, get_or, take, drop, replicate, sym, refl, ap, ◌∙◌, subst, inl, inr, arith, length-drop, w8}
+use Rattle.std.specs.Int.Bits.{bit_or, or_add_and}
+use Rattle.std.proofs.lemmas.Nat.{and_le_l, and_le_r}
+use Rattle.std.specs.Int.Count.{count_trailing_zeros}
+use Rattle.std.specs.Simd.Lanes.{mask_l, zip2, top}
 use Rattle.std.specs.List.{prefix_len}
 use Rattle.std.proofs.lemmas.Simd.{tops_compared, mask_l-mod, leading_from_mask_l, trailing_mask_l, get_or-zip2, length-zip2}
-use Rattle.std.proofs.lemmas.List.{get_or-take, get_or-drop, length-take-le, take_rest}
+use Rattle.std.proofs.lemmas.List.{get_or-take, get_or-drop, length-take-le, take_rest, length-map}
 use Rattle.std.proofs.lemmas.List.Sums.{prefix_len-le-length}
 use Rattle.std.proofs.lemmas.Bool.{cases_lt}
 use Rattle.std.proofs.lemmas.Bool.Decides.{nat_tests}
