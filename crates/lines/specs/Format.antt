@@ -80,6 +80,10 @@ text d = cond (slice_index d (length d - 1) == 10) (take (length d - 1) d) d
 pub data Band : Type 0 where
   on : ℕ → List ℕ → Band
 
+-- the band that a byte tells
+abbrev pub channel : ℕ → Result ℕ Refusal
+channel b = cond (nat_le 1 b && nat_le b 3) (Ok b) (Err (unknown_band b))
+
 -- the band of a payload: its first byte tells it, and the rest came on it
 abbrev pub band : List ℕ → Result Band Refusal
 band [] = Err no_band

@@ -14,7 +14,8 @@ use Rattle.lines.specs.declared.decode.PacketLineOrWantedSize.{PacketLineOrWante
 use Rattle.lines.specs.declared.decode.PacketLineOrWantedSize.TheVariants as sizes
 use Rattle.lines.specs.declared.decode.Stream.{Stream}
 use Rattle.lines.specs.declared.decode.Stream.TheVariants as streams
-use Rattle.lines.specs.Refusals.{Refusal, not_hex, length_three, empty_line, too_long, missing, no_band, unknown_band}
+use Rattle.lines.specs.declared.refusal.Refusal.{Refusal as Told}
+use Rattle.lines.specs.Refusals.{Refusal, refused, not_hex, length_three, empty_line, too_long, missing, no_band, unknown_band}
 use Rattle.lines.specs.Format.{Line, payload, flush, delimiter, response_end, Band, on}
 use Rattle.lines.specs.Decoding.{Prefix, marks, wants, Streamed, complete, incomplete}
 
@@ -46,6 +47,10 @@ abbrev pub band_of : BandRef → Band
 band_of (bands.Data d) = on 1 d.now
 band_of (bands.Progress d) = on 2 d.now
 band_of (bands.Error d) = on 3 d.now
+
+-- the row that a refusal of the code tells
+abbrev pub row_of : Told → Refusal
+row_of r = refused r.number r.value
 
 -- the row of the table that a fault belongs to
 abbrev pub decode_refusal : DecodeFault → Refusal

@@ -1,16 +1,19 @@
 //! Packet lines from bytes.
 ghost use Rattle.std.specs.Prelude.{◌≡◌, length, IfOk};
-ghost use Rattle.lines.specs.Refusals.{number_of, value_of};
 ghost use Rattle.hex_digits.specs.Digits.{length_field};
 ghost use Rattle.lines.specs.Decoding.{prefix, limited, Fits, streamed, decoded, data_line, Within};
 ghost use Rattle.lines.specs.Meaning.{answered, line_of, prefix_of, streamed_of, decode_refusal};
 ghost use Rattle.lines.specs.Laws.{Inverse, TakenOff};
 ghost use Rattle.lines.specs.Examples.{Examples};
 
-use crate::{MAX_DATA_LEN, PacketLineRef, U16_HEX_BYTES};
+use crate::refusal::{Refusal, Refuses};
+use crate::{MAX_DATA_LEN, MAX_LINE_LEN, PacketLineRef, U16_HEX_BYTES};
 use hex_digits::hex_byte;
+use std::error::Error;
+use std::fmt;
+
 /// What the bytes at hand are.
-#[derive(Clone, Copy)]
+#[derive(Clone, Copy, Debug, PartialEq, Eq, Hash)]
 pub enum Stream<'a> {
     /// One line, whole.
     Complete {
@@ -27,7 +30,7 @@ pub enum Stream<'a> {
 }
 
 /// What a prefix announces.
-#[derive(Clone, Copy)]
+#[derive(Clone, Copy, Debug, PartialEq, Eq, Hash)]
 pub enum PacketLineOrWantedSize<'a> {
     /// A marker; never a line with a payload.
     Line(PacketLineRef<'a>),
@@ -36,7 +39,7 @@ pub enum PacketLineOrWantedSize<'a> {
 }
 
 /// Why bytes are no line.
-#[derive(Clone, Copy)]
+#[derive(Clone, Copy, Debug, PartialEq, Eq, Hash)]
 pub enum DecodeFault {
     /// The prefix is not four hexadecimal digits.
     NotHex,
@@ -50,31 +53,36 @@ pub enum DecodeFault {
     Missing(usize),
 }
 
-impl DecodeFault {
-    /// Its number in the table of refusals.
-    pub fn number(&self) -> u8
-        ensures { result ≡ number_of (decode_refusal self.now) }
-    {
-        match self {
-            DecodeFault::NotHex => 1,
-            DecodeFault::LengthThree => 2,
-            DecodeFault::EmptyLine => 3,
-            DecodeFault::TooLong(_) => 4,
-            DecodeFault::Missing(_) => 5,
-        }
-    }
+impl Refuses for DecodeFault {
+    ghost table_row = { decode_refusal };
 
-    /// The value that comes with it.
-    pub fn value(&self) -> Option<u64>
-        ensures { result ≡ value_of (decode_refusal self.now) }
-    {
-        match self {
-            DecodeFault::NotHex | DecodeFault::LengthThree | DecodeFault::EmptyLine => None,
-            DecodeFault::TooLong(length) => Some(*length as u64),
-            DecodeFault::Missing(bytes) => Some(*bytes as u64),
+    fn refusal(&self) -> Refusal {
+        match *self {
+            DecodeFault::NotHex => Refusal::plain(1),
+            DecodeFault::LengthThree => Refusal::plain(2),
+            DecodeFault::EmptyLine => Refusal::plain(3),
+            DecodeFault::TooLong(length) => Refusal::with(4, length as u64),
+            DecodeFault::Missing(bytes) => Refusal::with(5, bytes as u64),
         }
     }
 }
+
+impl fmt::Display for DecodeFault {
+    fn fmt<W: fmt::Write>(&self, f: &mut fmt::Formatter<W>) -> fmt::Result {
+        match self {
+            DecodeFault::NotHex => f.write_str("not four hexadecimal digits"),
+            DecodeFault::LengthThree => f.write_str("no line has the length 3"),
+            DecodeFault::EmptyLine => f.write_str("a line of no payload"),
+            DecodeFault::TooLong(length) => write!(
+                f,
+                "a line of {length} bytes, and {MAX_LINE_LEN} is the most"
+            ),
+            DecodeFault::Missing(bytes) => write!(f, "{bytes} bytes are missing"),
+        }
+    }
+}
+
+impl Error for DecodeFault {}
 
 /// Decodes a prefix of four hexadecimal digits, which has no upper limit here.
 ///
@@ -82,9 +90,7 @@ impl DecodeFault {
 pub fn hex_prefix(four_bytes: &[u8]) -> Result<PacketLineOrWantedSize<'_>, DecodeFault>
     ensures { answered prefix_of decode_refusal result ≡ prefix four_bytes.now }
 {
-    let Some(wanted_bytes) = hex_value(four_bytes) else {
-        return Err(DecodeFault::NotHex);
-    };
+    let wanted_bytes = hex_value(four_bytes).ok_or(DecodeFault::NotHex)?;
     match wanted_bytes {
         0 => Ok(PacketLineOrWantedSize::Line(PacketLineRef::Flush)),
         1 => Ok(PacketLineOrWantedSize::Line(PacketLineRef::Delimiter)),
@@ -104,8 +110,8 @@ pub fn limited_prefix(four_bytes: &[u8]) -> Result<PacketLineOrWantedSize<'_>, D
 {
     let prefix = hex_prefix(four_bytes)?;
     match prefix {
-        PacketLineOrWantedSize::Wanted(size) if size as usize > MAX_DATA_LEN => {
-            Err(DecodeFault::TooLong(size as usize + U16_HEX_BYTES))
+        PacketLineOrWantedSize::Wanted(size) if usize::from(size) > MAX_DATA_LEN => {
+            Err(DecodeFault::TooLong(usize::from(size) + U16_HEX_BYTES))
         }
         _ => Ok(prefix),
     }
@@ -137,7 +143,7 @@ pub fn streaming(data: &[u8]) -> Result<Stream<'_>, DecodeFault>
         });
     }
     let wanted_bytes = match limited_prefix(&data[0..U16_HEX_BYTES])? {
-        PacketLineOrWantedSize::Wanted(size) => size as usize + U16_HEX_BYTES,
+        PacketLineOrWantedSize::Wanted(size) => usize::from(size) + U16_HEX_BYTES,
         PacketLineOrWantedSize::Line(line) => {
             return Ok(Stream::Complete {
                 line,
@@ -170,19 +176,15 @@ pub fn all_at_once(data: &[u8]) -> Result<PacketLineRef<'_>, DecodeFault>
 }
 
 /// Carries the theorem that decoding and writing belong to one grammar.
-pub fn decoding_inverts_encoding() -> u8
+pub fn decoding_inverts_encoding()
     ensures inverse { Inverse }
     ensures taken_off { TakenOff }
-{
-    0
-}
+{}
 
 /// Carries the worked examples of the format.
-pub fn examples_hold() -> u8
+pub fn examples_hold()
     ensures { Examples }
-{
-    0
-}
+{}
 
 fn hex_value(four_bytes: &[u8]) -> Option<u16>
     ensures { result ≡ length_field four_bytes.now }

@@ -3,12 +3,16 @@
 
 ghost use Rattle.std.specs.Prelude.{◌≡◌, Some, Decides};
 ghost use Rattle.std.specs.Option.{option_map};
-ghost use Rattle.lines.specs.Refusals.{number_of, value_of};
-ghost use Rattle.lines.specs.Format.{and_then, payload_of, message, text, on, line_band};
+ghost use Rattle.lines.specs.Format.{and_then, payload_of, message, text, on, channel, line_band};
 ghost use Rattle.lines.specs.Meaning.{answered, line_of, channel_of, band_of, band_refusal};
 
 pub mod decode;
 pub mod encode;
+pub mod refusal;
+
+pub use refusal::{Refusal, Refuses};
+use std::error::Error;
+use std::fmt;
 
 /// The bytes of a prefix.
 pub const U16_HEX_BYTES: usize = 4;
@@ -20,7 +24,7 @@ pub const MAX_DATA_LEN: usize = 65516;
 pub const MAX_LINE_LEN: usize = MAX_DATA_LEN + U16_HEX_BYTES;
 
 /// One of the three bands that share a connection.
-#[derive(Clone, Copy)]
+#[derive(Clone, Copy, Debug, PartialEq, Eq, PartialOrd, Ord, Hash)]
 pub enum Channel {
     /// The usable data itself, in any format.
     Data = 1,
@@ -31,7 +35,7 @@ pub enum Channel {
 }
 
 /// A packet line that borrows its payload from the bytes it was decoded from.
-#[derive(Clone, Copy)]
+#[derive(Clone, Copy, Debug, PartialEq, Eq, PartialOrd, Ord, Hash)]
 pub enum PacketLineRef<'a> {
     /// A payload.
     Data(&'a [u8]),
@@ -44,7 +48,7 @@ pub enum PacketLineRef<'a> {
 }
 
 /// What came on a band, without its band byte.
-#[derive(Clone, Copy)]
+#[derive(Clone, Copy, Debug, PartialEq, Eq, PartialOrd, Ord, Hash)]
 pub enum BandRef<'a> {
     /// Data.
     Data(&'a [u8]),
@@ -55,15 +59,15 @@ pub enum BandRef<'a> {
 }
 
 /// An error message.
-#[derive(Clone, Copy)]
+#[derive(Clone, Copy, Debug, PartialEq, Eq, PartialOrd, Ord, Hash)]
 pub struct ErrorRef<'a>(pub &'a [u8]);
 
 /// A text without the newline that may end it.
-#[derive(Clone, Copy)]
+#[derive(Clone, Copy, Debug, PartialEq, Eq, PartialOrd, Ord, Hash)]
 pub struct TextRef<'a>(pub &'a [u8]);
 
 /// Why a line has no band.
-#[derive(Clone, Copy)]
+#[derive(Clone, Copy, Debug, PartialEq, Eq, PartialOrd, Ord, Hash)]
 pub enum BandError {
     /// It is a marker, or a payload of no bytes.
     NoBand,
@@ -110,12 +114,7 @@ impl<'a> PacketLineRef<'a> {
     pub fn as_band(&self, kind: Channel) -> Option<BandRef<'a>>
         ensures { option_map band_of result ≡ option_map (on (channel_of kind)) (payload_of (line_of self.now)) }
     {
-        let d = self.as_slice()?;
-        Some(match kind {
-            Channel::Data => BandRef::Data(d),
-            Channel::Progress => BandRef::Progress(d),
-            Channel::Error => BandRef::Error(d),
-        })
+        Some(BandRef::on(kind, self.as_slice()?))
     }
 
     /// The band that the payload's first byte tells, and the rest on it.
@@ -124,17 +123,37 @@ impl<'a> PacketLineRef<'a> {
     pub fn decode_band(&self) -> Result<BandRef<'a>, BandError>
         ensures { answered band_of band_refusal result ≡ line_band (line_of self.now) }
     {
-        let Some(d) = self.as_slice() else {
-            return Err(BandError::NoBand);
-        };
-        match d {
+        match self.as_slice().ok_or(BandError::NoBand)? {
             [] => Err(BandError::NoBand),
-            [band, rest @ ..] => match *band {
-                1 => Ok(BandRef::Data(rest)),
-                2 => Ok(BandRef::Progress(rest)),
-                3 => Ok(BandRef::Error(rest)),
-                other => Err(BandError::UnknownBand(other)),
-            },
+            [band, rest @ ..] => Ok(BandRef::on(Channel::try_from(*band)?, rest)),
+        }
+    }
+}
+
+impl TryFrom<u8> for Channel {
+    type Error = BandError;
+
+    ghost try_from_gives = { λ b r. answered channel_of band_refusal r ≡ channel b };
+
+    fn try_from(byte: u8) -> Result<Channel, BandError> {
+        match byte {
+            1 => Ok(Channel::Data),
+            2 => Ok(Channel::Progress),
+            3 => Ok(Channel::Error),
+            other => Err(BandError::UnknownBand(other)),
+        }
+    }
+}
+
+impl<'a> BandRef<'a> {
+    // What came on the band `kind`.
+    fn on(kind: Channel, d: &'a [u8]) -> BandRef<'a>
+        ensures { band_of result ≡ on (channel_of kind) d.now }
+    {
+        match kind {
+            Channel::Data => BandRef::Data(d),
+            Channel::Progress => BandRef::Progress(d),
+            Channel::Error => BandRef::Error(d),
         }
     }
 }
@@ -159,37 +178,31 @@ impl<'a> From<&'a [u8]> for TextRef<'a> {
     }
 }
 
-impl BandError {
-    /// Its number in the table of refusals.
-    pub fn number(&self) -> u8
-        ensures { result ≡ number_of (band_refusal self.now) }
-    {
-        match self {
-            BandError::NoBand => 9,
-            BandError::UnknownBand(_) => 10,
-        }
-    }
+impl Refuses for BandError {
+    ghost table_row = { band_refusal };
 
-    /// The value that comes with it.
-    pub fn value(&self) -> Option<u64>
-        ensures { result ≡ value_of (band_refusal self.now) }
-    {
-        match self {
-            BandError::NoBand => None,
-            BandError::UnknownBand(band) => Some(*band as u64),
+    fn refusal(&self) -> Refusal {
+        match *self {
+            BandError::NoBand => Refusal::plain(9),
+            BandError::UnknownBand(band) => Refusal::with(10, u64::from(band)),
         }
     }
 }
+
+impl fmt::Display for BandError {
+    fn fmt<W: fmt::Write>(&self, f: &mut fmt::Formatter<W>) -> fmt::Result {
+        match self {
+            BandError::NoBand => f.write_str("a marker or no payload, and so no band"),
+            BandError::UnknownBand(band) => write!(f, "the byte {band} is no band"),
+        }
+    }
+}
+
+impl Error for BandError {}
 
 /// Whether two lines are the same: the same marker, or the same payload.
 pub fn same_line(a: &PacketLineRef<'_>, b: &PacketLineRef<'_>) -> bool
     ensures { Decides result (line_of a.now ≡ line_of b.now) }
 {
-    match (a, b) {
-        (PacketLineRef::Data(x), PacketLineRef::Data(y)) => *x == *y,
-        (PacketLineRef::Flush, PacketLineRef::Flush) => true,
-        (PacketLineRef::Delimiter, PacketLineRef::Delimiter) => true,
-        (PacketLineRef::ResponseEnd, PacketLineRef::ResponseEnd) => true,
-        _ => false,
-    }
+    *a == *b
 }
