@@ -10,9 +10,9 @@ use Rattle.links.specs.Refusals.{ended}
 use Rattle.links.specs.Items.{Item, byte, interruption, passes, ends, effect}
 use Rattle.links.specs.Reads.{Gives, Spends, Reads}
 use Rattle.links.specs.Collect.{Collected, stops, behind, collect, Collects}
-use Rattle.links.specs.declared.source.SourceFault.{SourceFault}
-use Rattle.links.specs.declared.source.Given.{Given}
-use Rattle.links.specs.declared.source.Given.TheVariants.{Bytes, Interrupted}
+use Rattle.links.specs.declared.LinkFault.{LinkFault}
+use Rattle.links.specs.declared.Moved.{Moved}
+use Rattle.links.specs.declared.Moved.TheVariants.{Bytes, Interrupted}
 
 -- collections with the same parts
 pub same_collected : {a b : Collected} → a.got ≡ b.got → a.answer ≡ b.answer → a.rest ≡ b.rest → a ≡ b
@@ -159,8 +159,8 @@ full total first memory at items so_far whole all =
     }
 
 -- what a read did, where its answer is known
-pub reads_interrupted : {items rest : List Item} {memory after : List ℕ} (r : Result Given SourceFault) → r ≡ Ok Interrupted → Reads items memory r rest after → Spends interruption items memory rest after
+pub reads_interrupted : {items rest : List Item} {memory after : List ℕ} (r : Result Moved LinkFault) → r ≡ Ok Interrupted → Reads items memory r rest after → Spends interruption items memory rest after
 reads_interrupted r is reads = rw is at reads
 
-pub reads_bytes : {items rest : List Item} {memory after : List ℕ} (r : Result Given SourceFault) (n : ℕ) → r ≡ Ok (Bytes n) → Reads items memory r rest after → Gives items memory n rest after
+pub reads_bytes : {items rest : List Item} {memory after : List ℕ} (r : Result Moved LinkFault) (n : ℕ) → r ≡ Ok (Bytes n) → Reads items memory r rest after → Gives items memory n rest after
 reads_bytes r n is reads = rw is at reads

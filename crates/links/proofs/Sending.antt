@@ -8,9 +8,9 @@ use Rattle.links.specs.Items.{passes, ends}
 use Rattle.links.specs.Slots.{Slot, place, interrupts, slot_effect, Stand}
 use Rattle.links.specs.Writes.{Takes, Spends, Writes}
 use Rattle.links.specs.Send.{Sent, ceases, joined, send, stand_behind, pushed, Sends}
-use Rattle.links.specs.declared.sink.SinkFault.{SinkFault}
-use Rattle.links.specs.declared.sink.Took.{Took}
-use Rattle.links.specs.declared.sink.Took.TheVariants.{Bytes, Interrupted}
+use Rattle.links.specs.declared.LinkFault.{LinkFault}
+use Rattle.links.specs.declared.Moved.{Moved}
+use Rattle.links.specs.declared.Moved.TheVariants.{Bytes, Interrupted}
 
 -- stands with the same parts
 pub same_stand : {s t : Stand} → s.home ≡ t.home → s.accepted ≡ t.accepted → s.beyond ≡ t.beyond → s.room ≡ t.room → s ≡ t
@@ -108,36 +108,26 @@ takes_falls s t bytes n some w =
     let places = length-replicate n place in
     omega arith
 
--- A turn: what is left of the bytes behind `at` was handed in.
-module _ (total : Outcome) (s t : Stand) (bytes : List ℕ) (at : ℕ) (so_far : total ≡ outcome (drop at bytes) s) where
-  abbrev part : List ℕ
-  part = take (length bytes - at) (drop at bytes)
+-- A turn: `rest`, what is left of the bytes, was handed in.
+module _ (total : Outcome) (s t : Stand) (rest : List ℕ) (so_far : total ≡ outcome rest s) where
+  pub goes_on : (n : ℕ) → Takes s rest n t → total ≡ outcome (take (length rest - n) (drop n rest)) t
+  goes_on n w = so_far ∙ (takes s t rest n w ∙ ap (λ l. outcome l t) (sym (take_rest rest n)))
 
-  pub goes_on : (n : ℕ) → at ≤ length bytes → Takes s part n t → (at + n ≤ length bytes) × (total ≡ outcome (drop (at + n) bytes) t)
-  goes_on n within w =
-      let v : Takes s (drop at bytes) n t = rw (take_rest bytes at) at w in
-      let most = v.most in
-      let long = length-drop at bytes in
-      (omega arith, so_far ∙ (takes s t (drop at bytes) n v ∙ ap (λ l. outcome l t) (drop-drop n at bytes)))
+  pub passes_over : (slot : Slot) → slot_effect slot ≡ passes → Spends slot s rest t → total ≡ outcome rest t
+  passes_over slot e w = so_far ∙ spends_passes slot s t rest e w
 
-  pub passes_over : (slot : Slot) → slot_effect slot ≡ passes → Spends slot s part t → total ≡ outcome (drop at bytes) t
-  passes_over slot e w = let v : Spends slot s (drop at bytes) t = rw (take_rest bytes at) at w in so_far ∙ spends_passes slot s t (drop at bytes) e v
+  pub faults : (slot : Slot) (r : Refusal) → slot_effect slot ≡ ends r → Spends slot s rest t → total ≡ comes_to (Err r) t
+  faults slot r e w = so_far ∙ spends_ends slot r s t rest e w
 
-  pub faults : (slot : Slot) (r : Refusal) → slot_effect slot ≡ ends r → Spends slot s part t → total ≡ comes_to (Err r) t
-  faults slot r e w = let v : Spends slot s (drop at bytes) t = rw (take_rest bytes at) at w in so_far ∙ spends_ends slot r s t (drop at bytes) e v
+  pub takes_no_more : 0 < length rest → Takes s rest 0 t → total ≡ comes_to (Err takes_none) t
+  takes_no_more some w = so_far ∙ takes_zero s t rest some w
 
-  pub takes_no_more : at < length bytes → Takes s part 0 t → total ≡ comes_to (Err takes_none) t
-  takes_no_more some w =
-      let v : Takes s (drop at bytes) 0 t = rw (take_rest bytes at) at w in
-      let long = length-drop at bytes in
-      so_far ∙ takes_zero s t (drop at bytes) (omega arith) v
-
-  pub all_sent : length bytes ≤ at → total ≡ comes_to (Ok tt) s
-  all_sent all = so_far ∙ (ap (λ l. outcome l s) (drop_all at bytes all) ∙ none_left s)
+  pub all_sent : length rest ≡ 0 → total ≡ comes_to (Ok tt) s
+  all_sent none = so_far ∙ (ap (λ l. outcome l s) (nil_from_length rest none) ∙ none_left s)
 
 -- what a write did, where its answer is known
-pub writes_interrupted : {s t : Stand} {bytes : List ℕ} (r : Result Took SinkFault) → r ≡ Ok Interrupted → Writes s bytes r t → Spends interrupts s bytes t
+pub writes_interrupted : {s t : Stand} {bytes : List ℕ} (r : Result Moved LinkFault) → r ≡ Ok Interrupted → Writes s bytes r t → Spends interrupts s bytes t
 writes_interrupted r is w = rw is at w
 
-pub writes_bytes : {s t : Stand} {bytes : List ℕ} (r : Result Took SinkFault) (n : ℕ) → r ≡ Ok (Bytes n) → Writes s bytes r t → Takes s bytes n t
+pub writes_bytes : {s t : Stand} {bytes : List ℕ} (r : Result Moved LinkFault) (n : ℕ) → r ≡ Ok (Bytes n) → Writes s bytes r t → Takes s bytes n t
 writes_bytes r n is w = rw is at w

@@ -2,9 +2,9 @@
 -- `memory` is the memory handed in and `after` what it holds then.
 use Rattle.std.specs.Prelude.{◌≡◌, ℕ, ◌<◌, ◌≤◌, List, ◌∷◌, ◌++◌, map, length, take, drop, Ok, Err, Result}
 use Rattle.links.specs.Items.{Item, byte, interruption, fault}
-use Rattle.links.specs.declared.source.SourceFault.{SourceFault}
-use Rattle.links.specs.declared.source.Given.{Given}
-use Rattle.links.specs.declared.source.Given.TheVariants.{Bytes, Interrupted}
+use Rattle.links.specs.declared.LinkFault.{LinkFault}
+use Rattle.links.specs.declared.Moved.{Moved}
+use Rattle.links.specs.declared.Moved.TheVariants.{Bytes, Interrupted}
 
 -- n bytes are given: at most those asked for, and at least one if any is asked for and any item is to come.
 -- They stood in front, so that they end before the next other item, and memory past them is unchanged.
@@ -21,7 +21,7 @@ pub record Spends (item : Item) (items : List Item) (memory : List ℕ) (rest : 
   pub kept : after ≡ memory
 
 -- what a read answers tells what it did
-abbrev pub Reads : List Item → List ℕ → Result Given SourceFault → List Item → List ℕ → Type 0
+abbrev pub Reads : List Item → List ℕ → Result Moved LinkFault → List Item → List ℕ → Type 0
 Reads items memory (Ok (Bytes n)) rest after = Gives items memory n rest after
 Reads items memory (Ok Interrupted) rest after = Spends interruption items memory rest after
 Reads items memory (Err e) rest after = Spends (fault e.number) items memory rest after

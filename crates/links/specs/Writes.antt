@@ -1,9 +1,9 @@
 -- What one write does to a sink that stands at `before`: it then stands at `after`.
 use Rattle.std.specs.Prelude.{◌≡◌, ℕ, ◌<◌, ◌≤◌, List, ◌∷◌, ◌++◌, length, take, drop, replicate, Ok, Err, Result}
 use Rattle.links.specs.Slots.{Slot, place, interrupts, fails, Stand}
-use Rattle.links.specs.declared.sink.SinkFault.{SinkFault}
-use Rattle.links.specs.declared.sink.Took.{Took}
-use Rattle.links.specs.declared.sink.Took.TheVariants.{Bytes, Interrupted}
+use Rattle.links.specs.declared.LinkFault.{LinkFault}
+use Rattle.links.specs.declared.Moved.{Moved}
+use Rattle.links.specs.declared.Moved.TheVariants.{Bytes, Interrupted}
 
 -- n bytes are taken: at most those handed in, and at least one if there is any and any slot is to come.
 -- The places used stood in front, so that they end before the next other slot.
@@ -24,7 +24,7 @@ pub record Spends (slot : Slot) (before : Stand) (bytes : List ℕ) (after : Sta
   pub keeps : after.beyond ≡ before.beyond
 
 -- what a write answers tells what it did
-abbrev pub Writes : Stand → List ℕ → Result Took SinkFault → Stand → Type 0
+abbrev pub Writes : Stand → List ℕ → Result Moved LinkFault → Stand → Type 0
 Writes before bytes (Ok (Bytes n)) after = Takes before bytes n after
 Writes before bytes (Ok Interrupted) after = Spends interrupts before bytes after
 Writes before bytes (Err e) after = Spends (fails e.number) before bytes after

@@ -1,6 +1,5 @@
 //! One unit taken from a source.
 ghost use Rattle.std.specs.Prelude.{◌≡◌, length, IfOk};
-ghost use Rattle.lines.specs.Refusals.{number_of, value_of};
 ghost use Rattle.lines.specs.Decoding.{prefix, limited, Fits};
 ghost use Rattle.lines.specs.Meaning.{answered, decode_refusal};
 ghost use Rattle.links.specs.Meaning.{unit_refusal, prefix_of_kind, TakesUnit};
@@ -10,10 +9,12 @@ ghost use Rattle.links.specs.declared.unit.UnitFault.TheVariants.{Decode as OfDe
 use crate::memory::LineMemory;
 use crate::source::{ReadFault, Source, read_exact};
 use lines::decode::{DecodeFault, PacketLineOrWantedSize, limited_prefix};
-use lines::{PacketLineRef, U16_HEX_BYTES};
+use lines::{PacketLineRef, Refusal, Refuses, U16_HEX_BYTES};
+use std::error::Error;
+use std::fmt;
 
 /// A line that is its prefix alone.
-#[derive(Clone, Copy)]
+#[derive(Clone, Copy, Debug, PartialEq, Eq, Hash)]
 pub enum Marker {
     /// The end of a message.
     Flush,
@@ -24,7 +25,7 @@ pub enum Marker {
 }
 
 /// A line in a memory, by its prefix.
-#[derive(Clone, Copy)]
+#[derive(Clone, Copy, Debug, PartialEq, Eq, Hash)]
 pub enum LineKind {
     /// A marker.
     Marker(Marker),
@@ -33,7 +34,7 @@ pub enum LineKind {
 }
 
 /// Why a unit is no line.
-#[derive(Clone, Copy)]
+#[derive(Clone, Copy, Debug, PartialEq, Eq, Hash)]
 pub enum UnitFault {
     /// The prefix is refused.
     Decode(DecodeFault),
@@ -57,27 +58,27 @@ impl From<ReadFault> for UnitFault {
     }
 }
 
-impl UnitFault {
-    /// Its number in the table of refusals.
-    pub fn number(&self) -> u8
-        ensures { result ≡ number_of (unit_refusal self.now) }
-    {
-        match self {
-            UnitFault::Decode(fault) => fault.number(),
-            UnitFault::Link(fault) => fault.number(),
-        }
-    }
+impl Refuses for UnitFault {
+    ghost table_row = { unit_refusal };
 
-    /// The value that comes with it.
-    pub fn value(&self) -> Option<u64>
-        ensures { result ≡ value_of (unit_refusal self.now) }
-    {
+    fn refusal(&self) -> Refusal {
         match self {
-            UnitFault::Decode(fault) => fault.value(),
-            UnitFault::Link(fault) => fault.value(),
+            UnitFault::Decode(fault) => fault.refusal(),
+            UnitFault::Link(fault) => fault.refusal(),
         }
     }
 }
+
+impl fmt::Display for UnitFault {
+    fn fmt<W: fmt::Write>(&self, f: &mut fmt::Formatter<W>) -> fmt::Result {
+        match self {
+            UnitFault::Decode(fault) => write!(f, "{fault}"),
+            UnitFault::Link(fault) => write!(f, "{fault}"),
+        }
+    }
+}
+
+impl Error for UnitFault {}
 
 /// Takes one unit from `source`: its prefix comes to stand in front of `memory`, and its payload behind it.
 ///
@@ -92,11 +93,9 @@ pub fn read_line_inner<S: Source>(
 }
 
 /// Carries the laws of the cut.
-pub fn cut_divides_in_order() -> u8
+pub fn cut_divides_in_order()
     ensures { Cuts }
-{
-    0
-}
+{}
 
 fn read_unit<S: Source>(source: &mut S, memory: &mut [u8]) -> Result<LineKind, UnitFault>
     requires { length memory.old ≡ 65520 }
@@ -115,7 +114,7 @@ fn line_kind(four_bytes: &[u8]) -> Result<LineKind, DecodeFault>
     ensures within { IfOk result (λ k. Fits (prefix_of_kind k)) }
 {
     Ok(match limited_prefix(four_bytes)? {
-        PacketLineOrWantedSize::Wanted(size) => LineKind::Data(size as usize),
+        PacketLineOrWantedSize::Wanted(size) => LineKind::Data(usize::from(size)),
         PacketLineOrWantedSize::Line(PacketLineRef::Delimiter) => LineKind::Marker(
             Marker::Delimiter,
         ),

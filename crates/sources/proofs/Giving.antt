@@ -1,36 +1,25 @@
--- Bytes copied from the front of a list of bytes are what a read may give, whatever comes behind that list.
-use Rattle.std.proofs.Common.{◌≡◌, ℕ, ◌<◌, min, List, [], ◌++◌, map, length, take, drop, sym, refl, ap, ◌∙◌, subst, append_assoc, append-nil, arith}
-use Rattle.std.proofs.lemmas.List.{length-map, length-take-le, take_at, drop_at, take-append-drop, map-append}
+-- What one read does, where more is to come behind what it reads, or nothing is to come.
+use Rattle.std.proofs.Common.{◌≡◌, ◌<◌, ℕ, List, [], ◌++◌, length, map, take, Ok, Err, Result, sym, refl, ap, ◌∙◌, subst, append_assoc, arith}
 use Rattle.links.specs.Items.{Item, byte}
-use Rattle.links.specs.Reads.{Gives}
+use Rattle.links.specs.Reads.{Gives, Spends, Reads}
+use Rattle.links.specs.declared.LinkFault.{LinkFault}
+use Rattle.links.specs.declared.Moved.{Moved}
+use Rattle.links.specs.declared.Moved.TheVariants.{Bytes, Interrupted}
 
--- The first n of the bytes are copied into memory, as many as it takes.
-module _ (bytes memory after rest : List ℕ) (n : ℕ) (least : n ≡ min (length bytes) (length memory))
-    (copied : after ≡ take n bytes ++ drop n memory) (back : rest ≡ drop n bytes) where
-  long : length (take n bytes) ≡ n
-  long = length-take-le n bytes (omega arith)
+spends_before : (item : Item) (items rest more : List Item) (memory after : List ℕ) → Spends item items memory rest after → Spends item (items ++ more) memory (rest ++ more) after
+spends_before item items rest more memory after s = record { asked = s.asked; spent = ap (λ l. l ++ more) s.spent; kept = s.kept }
 
-  front : take n after ≡ take n bytes
-  front = ap (take n) copied ∙ take_at (take n bytes) (drop n memory) n long
-
-  parted : map byte bytes ≡ map byte (take n bytes) ++ map byte (drop n bytes)
-  parted = ap (map byte) (sym (take-append-drop n bytes)) ∙ map-append byte (take n bytes) (drop n bytes)
-
-  -- of bytes with more behind them, where a byte is in front if anything is
-  pub gives_front : (more : List Item) → (0 < length (map byte bytes ++ more) → 0 < length bytes) → Gives (map byte bytes ++ more) memory n (map byte rest ++ more) after
-  gives_front more some =
-      record {
-        most = omega arith;
-        least = λ a i. let j = some i in omega arith;
-        given = rw (front, back, parted) (append_assoc (map byte (take n bytes)) (map byte (drop n bytes)) more);
-        beyond = ap (drop n) copied ∙ drop_at (take n bytes) (drop n memory) n long;
-      }
-
-  -- of bytes with nothing behind them
-  pub gives_all : Gives (map byte bytes) memory n (map byte rest) after
-  gives_all =
-      let g = gives_front [] (λ h. let j = length-map bytes byte in let k : 0 < length (map byte bytes) = rw append-nil at h in omega arith) in
-      rw (append-nil (map byte bytes), append-nil (map byte rest)) at g
+-- a read of items is a read of those items with more behind them
+pub reads_before : (r : Result Moved LinkFault) (items rest more : List Item) (memory after : List ℕ) → 0 < length items → Reads items memory r rest after → Reads (items ++ more) memory r (rest ++ more) after
+reads_before (Ok (Bytes n)) items rest more memory after some g =
+    record {
+      most = g.most;
+      least = λ asked _. g.least asked some;
+      given = ap (λ l. l ++ more) g.given ∙ append_assoc (map byte (take n after)) rest more;
+      beyond = g.beyond;
+    }
+reads_before (Ok Interrupted) items rest more memory after some s = spends_before _ items rest more memory after s
+reads_before (Err e) items rest more memory after some s = spends_before _ items rest more memory after s
 
 -- nothing is to come
 pub gives_none : (items rest : List Item) (memory : List ℕ) → rest ≡ items → rest ≡ [] → Gives items memory 0 rest memory
@@ -42,5 +31,5 @@ gives_none items rest memory same none =
       beyond = refl;
     }
 
-pub gives_same : {items items' rest : List Item} {memory after : List ℕ} {n : ℕ} → items ≡ items' → Gives items memory n rest after → Gives items' memory n rest after
-gives_same {rest = rest} {memory = memory} {after = after} {n = n} same gives = subst (λ l. Gives l memory n rest after) same gives
+pub reads_same : (r : Result Moved LinkFault) (items items' rest : List Item) (memory after : List ℕ) → items ≡ items' → Reads items memory r rest after → Reads items' memory r rest after
+reads_same r items items' rest memory after same reads = subst (λ l. Reads l memory r rest after) same reads

@@ -1,14 +1,15 @@
 //! A source that gives lent bytes, and nothing else.
-ghost use Rattle.std.specs.Prelude.{◌≡◌, min, ◌++◌, map, length, take, drop};
-ghost use Rattle.links.specs.Items.{byte};
+ghost use Rattle.std.specs.Prelude.{◌≡◌, ◌<◌, ◌^◌, map};
+ghost use Rattle.links.specs.Items.{byte, effect};
+ghost use Rattle.traces.specs.Counts.{tally};
 ghost use Rattle.sources.specs.Lists.{memory_list};
-ghost use Rattle.sources.specs.Counts.{tally};
 
-use crate::Left;
-use links::source::{Given, Source, SourceFault};
+use links::source::Source;
+use links::{LinkFault, Moved};
+use traces::Left;
 
 /// A source of lent bytes.
-#[derive(Drop)]
+#[derive(Clone, Copy, Debug)]
 pub struct Memory<'a> {
     bytes: &'a [u8],
 }
@@ -23,12 +24,12 @@ impl<'a> Memory<'a> {
 
     /// Counts what is still to come.
     pub fn left(&self) -> Left
-        ensures { result ≡ tally (memory_list self.now) }
+        ensures is { result ≡ tally effect (memory_list self.now) }
+        ensures below { result.bytes < 2 ^ 63 }
     {
         Left {
             bytes: self.bytes.len(),
-            interruptions: 0,
-            faults: 0,
+            ..Left::default()
         }
     }
 }
@@ -36,21 +37,11 @@ impl<'a> Memory<'a> {
 impl Source for Memory<'_> {
     ghost left = { memory_list };
 
-    fn read(&mut self, memory: &mut [u8]) -> Result<Given, SourceFault> {
-        let (n, rest) = copy_front(self.bytes, memory);
+    fn read(&mut self, memory: &mut [u8]) -> Result<Moved, LinkFault> {
+        let n = self.bytes.len().min(memory.len());
+        let (front, rest) = self.bytes.split_at(n);
+        memory[..n].copy_from_slice(front);
         self.bytes = rest;
-        Ok(Given::Bytes(n))
+        Ok(Moved::Bytes(n))
     }
-}
-
-/// Copies what fits from the front of `bytes`, and answers how many that were and what is left of them.
-pub(crate) fn copy_front<'a>(bytes: &'a [u8], memory: &mut [u8]) -> (usize, &'a [u8])
-    ensures count { result.0 ≡ min (length bytes.now) (length memory.old) }
-    ensures left { result.1.now ≡ drop result.0 bytes.now }
-    ensures copied { memory.new ≡ take result.0 bytes.now ++ drop result.0 memory.old }
-{
-    let n = bytes.len().min(memory.len());
-    let (front, rest) = bytes.split_at(n);
-    memory[0..n].copy_from_slice(front);
-    (n, rest)
 }

@@ -7,22 +7,17 @@ use Rattle.links.proofs.sink.write_all.Goals as goal
 pub returns-in_err-write : goal.returns-in_err-write
 returns-in_err-write g c =
     let p = err_from_is_err_and c.from_residual.result c.from_residual.ensures.1 in
-    let stand = g.K.Sink.stand in
-    rw (p.1, p.2)
-    (sends_as {after = stand c.write.new.self}
-    (faults _ (stand c.push.sink) (stand c.write.new.self) c.args.bytes.now c.push.at c.push.invariant.1 _ _ refl c.in_err-write.ensures))
+    rw (p.1, p.2) (sends_as (faults _ _ _ _ c.push.invariant _ _ refl c.in_err-write.ensures))
 
 pub push-preserved-in-Interrupted : goal.push-preserved-in-Interrupted
 push-preserved-in-Interrupted g c =
     let was = c.in_ok-write.was in
-    let stand = g.K.Sink.stand in
-    (search rules, passes_over _ (stand c.push.sink) (stand c.write.new.self) c.args.bytes.now c.push.at c.push.invariant.1 interrupts refl (writes_interrupted c.write.result (cc) c.write.ensures))
+    passes_over _ _ _ _ c.push.invariant interrupts refl (writes_interrupted c.write.result (cc) c.write.ensures)
 
 pub returns-in-Bytes-eq0 : goal.returns-in-Bytes-eq0
 returns-in-Bytes-eq0 g c =
     let was = c.in_ok-write.was in
-    let stand = g.K.Sink.stand in
-    sends_as (takes_no_more _ (stand c.push.sink) (stand c.write.new.self) c.args.bytes.now c.push.at c.push.invariant.1 c.push-test.true (writes_bytes c.write.result 0 (cc) c.write.ensures))
+    sends_as (takes_no_more _ _ _ _ c.push.invariant (grind (arith, c.push-test.true, c.is_empty.ensures)) (writes_bytes c.write.result 0 (cc) c.write.ensures))
 
 pub push-smaller : goal.push-smaller
 push-smaller g c =
@@ -32,10 +27,7 @@ push-smaller g c =
 pub push-preserved : goal.push-preserved
 push-preserved g c =
     let was = c.in_ok-write.was in
-    let stand = g.K.Sink.stand in
-    goes_on _ (stand c.push.sink) (stand c.write.new.self) c.args.bytes.now c.push.at c.push.invariant.1 c.in-Bytes.n c.push.invariant.0 (writes_bytes c.write.result c.in-Bytes.n (cc) c.write.ensures)
+    goes_on _ _ _ _ c.push.invariant c.in-Bytes.n (writes_bytes c.write.result c.in-Bytes.n (cc) c.write.ensures)
 
 pub returns : goal.returns
-returns g c =
-    let stand = g.K.Sink.stand in
-    sends_as (all_sent _ (stand c.push.sink) (stand c.push.sink) c.args.bytes.now c.push.at c.push.invariant.1 c.push-test.false)
+returns g c = sends_as (all_sent _ (g.K.Sink.stand c.push.sink) (g.K.Sink.stand c.push.sink) c.push.rest.now c.push.invariant (search rules))

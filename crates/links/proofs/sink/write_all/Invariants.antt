@@ -1,4 +1,4 @@
-use Rattle.std.proofs.Common.{◌≡◌, ◌≤◌, length, drop}
+use Rattle.std.proofs.Common.{◌≡◌, length}
 use Rattle.links.proofs.Sending.{outcome}
 use Rattle.links.proofs.sink.write_all.Given as goal
 
@@ -6,7 +6,7 @@ use Rattle.links.proofs.sink.write_all.Given as goal
 abbrev pub invariant-push : goal.invariant-push
 invariant-push g l =
     let stand = g.K.Sink.stand in
-    (l.at ≤ length l.bytes) × (outcome l.bytes (stand l.initial.sink) ≡ outcome (drop l.at l.bytes) (stand l.sink))
+    outcome l.initial.bytes (stand l.initial.sink) ≡ outcome l.rest (stand l.sink)
 
 abbrev pub decreases-push : goal.decreases-push
 decreases-push g l = length (g.K.Sink.stand l.sink).room

@@ -1,33 +1,46 @@
-use Rattle.std.proofs.Common.{◌<◌, length, sym, refl, ◌∙◌, rules}
+use Rattle.std.proofs.Common.{◌<◌, ◌++◌, map, length, sym, refl, ap, ◌∙◌, rules}
+use Rattle.std.proofs.lemmas.List.{length-map}
+use Rattle.links.specs.Items.{byte}
+use Rattle.traces.specs.Steps.{step_of_pair}
+use Rattle.traces.proofs.Pairs.{behind}
+use Rattle.sources.specs.Lists.{given_by}
+use Rattle.sources.proofs.Counting.{piece_length}
 use Rattle.sources.proofs.Stepping.{ends, begins, spends}
-use Rattle.sources.proofs.Giving.{gives_front, gives_none, gives_same}
+use Rattle.sources.proofs.Giving.{reads_before, gives_none, reads_same}
 use Rattle.sources.proofs.trace.TraceSource.read.Goals as goal
 
 pub returns-in_default : goal.returns-in_default
 returns-in_default c =
     let s = c.steps.self in
-    gives_none _ _ _ c.steps.invariant (ends s.piece.now s.bytes.now s.steps.now (search rules) (search rules))
+    let long = piece_length s.piece.bytes.now _ c.left.ensures.is in
+    gives_none _ _ _ c.steps.invariant (ends s.piece.bytes.now s.bytes.now s.steps.now (search rules) (search rules))
 
 pub steps-preserved : goal.steps-preserved
 steps-preserved c =
     let s = c.steps.self in
     let split = c.split_at.ensures in
-    begins s.piece.now s.bytes.now s.steps.now (search rules) (search rules) _ _ _ _ c.in-Bytes.ensures c.min.ensures split.front split.back ∙ c.steps.invariant
+    let long = piece_length s.piece.bytes.now _ c.left.ensures.is in
+    let behind = given_by c.split_at.result.1.now (map step_of_pair (behind s.steps.now)) in
+    ap (λ l. l ++ behind) c.new-self.ensures
+    ∙ (begins s.piece.bytes.now s.bytes.now s.steps.now (search rules) _ (search rules) c.from.ensures _ _ _ _ (search rules) c.min.ensures split.front split.back ∙ c.steps.invariant)
 
 pub returns-in-Interruption : goal.returns-in-Interruption
 returns-in-Interruption c =
     let s = c.steps.self in
-    let spent = spends s.piece.now s.bytes.now s.steps.now (search rules) (search rules) _ _ c.in-Interruption.ensures refl in
+    let long = piece_length s.piece.bytes.now _ c.left.ensures.is in
+    let spent = spends s.piece.bytes.now s.bytes.now s.steps.now (search rules) _ (search rules) c.from.ensures _ (search rules) in
     record { asked = search rules; spent = sym c.steps.invariant ∙ spent; kept = refl }
 
 pub returns-in-Fault : goal.returns-in-Fault
 returns-in-Fault c =
     let s = c.steps.self in
-    let spent = spends s.piece.now s.bytes.now s.steps.now (search rules) (search rules) _ _ c.in-Fault.ensures refl in
+    let long = piece_length s.piece.bytes.now _ c.left.ensures.is in
+    let spent = spends s.piece.bytes.now s.bytes.now s.steps.now (search rules) _ (search rules) c.from.ensures _ (search rules) in
     record { asked = search rules; spent = sym c.steps.invariant ∙ spent; kept = refl }
 
 pub returns : goal.returns
 returns c =
-    let copy = c.copy_front-n.ensures in
-    let some : 0 < length c.steps.self.piece.now = search rules in
-    gives_same c.steps.invariant (gives_front c.steps.self.piece.now _ _ _ _ copy.count copy.copied copy.left _ (λ _. some))
+    let s = c.steps.self in
+    let long = piece_length s.piece.bytes.now _ c.left.ensures.is in
+    let some : 0 < length (map byte s.piece.bytes.now) = simp length-map (search rules) in
+    reads_same c.read.result _ _ _ _ _ c.steps.invariant (reads_before c.read.result _ _ (given_by s.bytes.now (map step_of_pair s.steps.now)) _ _ some c.read.ensures)

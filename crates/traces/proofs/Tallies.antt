@@ -1,0 +1,27 @@
+-- Counts of lists, put together.
+use Rattle.std.proofs.Common.{◌≡◌, ℕ, List, [], ◌∷◌, ◌++◌, sym, ap, ◌∙◌, zero-add, add-zero, add_assoc}
+use Rattle.links.specs.Items.{Effect}
+use Rattle.traces.specs.Counts.{nothing, both, worth, tally}
+use Rattle.traces.specs.declared.Left.{Left}
+
+-- counts with the same parts
+pub same_left : {l m : Left} → l.bytes ≡ m.bytes → l.interruptions ≡ m.interruptions → l.faults ≡ m.faults → l ≡ m
+same_left b i f k = record { bytes = b k; interruptions = i k; faults = f k }
+
+-- so many bytes, and nothing else
+abbrev pub only_bytes : ℕ → Left
+only_bytes n = record { bytes = n; interruptions = 0; faults = 0 }
+
+pub nothing_first : (l : Left) → both nothing l ≡ l
+nothing_first l = same_left (zero-add l.bytes) (zero-add l.interruptions) (zero-add l.faults)
+
+pub nothing_last : (l : Left) → both l nothing ≡ l
+nothing_last l = same_left (add-zero l.bytes) (add-zero l.interruptions) (add-zero l.faults)
+
+pub both_assoc : (l m n : Left) → both (both l m) n ≡ both l (both m n)
+both_assoc l m n = same_left (add_assoc l.bytes m.bytes n.bytes) (add_assoc l.interruptions m.interruptions n.interruptions) (add_assoc l.faults m.faults n.faults)
+
+-- a list in front of another
+pub tally_append : {X Y : Type 0} (effect : X → Effect Y) (xs ys : List X) → tally effect (xs ++ ys) ≡ both (tally effect xs) (tally effect ys)
+tally_append effect [] ys = sym (nothing_first (tally effect ys))
+tally_append effect (x ∷ xs) ys = ap (both (worth (effect x))) (tally_append effect xs ys) ∙ sym (both_assoc (worth (effect x)) (tally effect xs) (tally effect ys))
