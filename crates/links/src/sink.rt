@@ -21,6 +21,7 @@ pub trait Sink {
 }
 
 /// Why bytes were not all accepted.
+// Kept: it differs from `ReadFault` in its first case alone, but that case has a row and a name of its own.
 #[derive(Clone, Copy, Debug, PartialEq, Eq, Hash)]
 pub enum WriteFault {
     /// The sink took none.
@@ -62,6 +63,7 @@ impl Error for WriteFault {}
 /// Sends all of `bytes` to `sink`, and passes over interruptions.
 ///
 /// Refuses where the sink takes none or faults before; the bytes accepted until then stay accepted.
+// Kept: it differs from `read_exact` in `&` for `&mut`, over which no function is generic.
 pub fn write_all<K: Sink>(sink: &mut K, bytes: &[u8]) -> Result<(), WriteFault>
     ensures { Sends (K.stand sink.old) bytes.now (done_or write_refusal result) (K.stand sink.new) }
 {

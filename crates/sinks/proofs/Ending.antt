@@ -4,10 +4,6 @@ use Rattle.std.proofs.lemmas.List.{take-append-drop}
 use Rattle.links.specs.Slots.{Stand, holds}
 use Rattle.links.specs.Send.{send, pushed, Sends}
 
--- a memory is what is filled of it and what is not
-pub parted : (memory : List ℕ) (filled : ℕ) → memory ≡ take filled memory ++ drop filled memory
-parted memory filled = sym (take-append-drop filled memory)
-
 -- A sink made to stand at x, and to which bytes were sent, has the home of x, and answered and holds what the sending fixes.
 module _ {s t x : Stand} (made : s ≡ x) {bytes : List ℕ} {answer : _} (sent : Sends s bytes answer t) where
   pub same_home : x.home ≡ t.home

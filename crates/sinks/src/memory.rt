@@ -1,13 +1,17 @@
 //! A sink with a place for each byte of a lent memory.
 ghost use Rattle.std.specs.Prelude.{◌≡◌, ◌+◌, ◌-◌, ◌≤◌, min, length, take};
+ghost use Rattle.links.specs.Slots.{slot_effect};
+ghost use Rattle.traces.specs.Counts.{tally};
 ghost use Rattle.sinks.specs.Stands.{memory_stand, fresh, put};
-ghost use Rattle.sinks.specs.Counts.{tally};
 
-use crate::Left;
-use links::sink::{Sink, SinkFault, Took};
+use links::sink::Sink;
+use links::{LinkFault, Moved};
+use traces::Left;
 
 /// A sink over lent memory, which it fills from the front.
-#[derive(Drop)]
+// Kept: `memory` and `filled` stand here and in a trace's sink, and `front` and `put_some` take both. In one struct
+// inside the sinks they would be plainer, but then nothing is proved of the lent memory when a sink is dropped.
+#[derive(Debug, Drop)]
 pub struct Memory<'a> {
     memory: &'a mut [u8],
     filled: usize,
@@ -30,12 +34,11 @@ impl<'a> Memory<'a> {
 
     /// Counts what is still to come.
     pub fn left(&self) -> Left
-        ensures { result ≡ tally (memory_stand self.now).room }
+        ensures { result ≡ tally slot_effect (memory_stand self.now).room }
     {
         Left {
-            places: self.memory.len().saturating_sub(self.filled),
-            interruptions: 0,
-            faults: 0,
+            bytes: self.memory.len().saturating_sub(self.filled),
+            ..Left::default()
         }
     }
 }
@@ -43,10 +46,10 @@ impl<'a> Memory<'a> {
 impl Sink for Memory<'_> {
     ghost stand = { memory_stand };
 
-    fn write(&mut self, bytes: &[u8]) -> Result<Took, SinkFault> {
+    fn write(&mut self, bytes: &[u8]) -> Result<Moved, LinkFault> {
         let n = put_some(bytes, self.filled, bytes.len(), self.memory);
         self.filled += n;
-        Ok(Took::Bytes(n))
+        Ok(Moved::Bytes(n))
     }
 }
 
@@ -54,11 +57,7 @@ impl Sink for Memory<'_> {
 pub(crate) fn front(memory: &[u8], filled: usize) -> &[u8]
     ensures { result.now ≡ take filled memory.now }
 {
-    if filled < memory.len() {
-        &memory[0..filled]
-    } else {
-        memory
-    }
+    &memory[..filled.min(memory.len())]
 }
 
 /// Copies what fits from the front of `bytes`, and no more than `most`, to the place `at` in `memory`.

@@ -23,6 +23,7 @@ pub fn send_to_memory(memory: &mut [u8], bytes: &[u8]) -> Result<(), WriteFault>
 /// Sends `bytes` to the front of `memory`, in the steps of a trace.
 ///
 /// Refuses where the steps have too few places, or a fault before; `memory` then holds the bytes accepted until then.
+// Kept: it differs from `send_to_memory` in the sink that it makes; what they share is `write_all`.
 pub fn send_to_trace(memory: &mut [u8], steps: &[u8], bytes: &[u8]) -> Result<(), WriteFault>
     ensures answer { (send bytes.now (fresh_trace memory.entry.ghost_name memory.old steps.now).room).answer ≡ done_or write_refusal result }
     ensures memory { memory.new ≡ holds (pushed bytes.now (fresh_trace memory.entry.ghost_name memory.old steps.now)) }

@@ -1,34 +1,25 @@
 //! A sink over lent memory that has its places in lent steps, with interruptions and faults between.
 ghost use Rattle.std.specs.Prelude.{◌≡◌, ◌-◌, length};
-ghost use Rattle.sinks.specs.Stands.{step_of, trace_stand, fresh_trace};
-ghost use Rattle.sinks.specs.Counts.{tally};
+ghost use Rattle.links.specs.Slots.{slot_effect};
+ghost use Rattle.traces.specs.Counts.{tally};
+ghost use Rattle.sinks.specs.Stands.{trace_stand, fresh_trace};
 
-use crate::Left;
 use crate::memory::{front, put_some};
-use links::FaultNumber;
-use links::sink::{Sink, SinkFault, Took};
+use links::sink::Sink;
+use links::{LinkFault, Moved};
+use traces::{Left, Step};
 
 /// A sink over lent memory, in lent steps of two bytes, a kind and an amount.
 ///
 /// Kind 0 has that many places, or those left; kind 2 is the fault of that number; any other kind is an interruption.
 /// An incomplete last step is void, and memory behind the last step is never filled.
-#[derive(Drop)]
+#[derive(Debug, Drop)]
 pub struct Trace<'a, 'b> {
     memory: &'a mut [u8],
     filled: usize,
     // How many places the step that was begun last still has, if the memory has them.
     piece: usize,
-    steps: &'b [u8],
-}
-
-/// A step of a trace.
-enum Step {
-    /// So many places, or those left.
-    Places(usize),
-    /// An interruption.
-    Interruption,
-    /// The fault of a number.
-    Fault(FaultNumber),
+    steps: &'b [[u8; 2]],
 }
 
 impl<'a, 'b> Trace<'a, 'b> {
@@ -36,6 +27,7 @@ impl<'a, 'b> Trace<'a, 'b> {
     pub fn new(memory: &'a mut [u8], steps: &'b [u8]) -> Trace<'a, 'b>
         ensures { trace_stand result ≡ fresh_trace memory.entry.ghost_name memory.old steps.now }
     {
+        let (steps, _) = steps.as_chunks::<2>();
         Trace {
             memory,
             filled: 0,
@@ -53,30 +45,15 @@ impl<'a, 'b> Trace<'a, 'b> {
 
     /// Counts what is still to come.
     pub fn left(&self) -> Left
-        ensures { result ≡ tally (trace_stand self.now).room }
+        ensures { result ≡ tally slot_effect (trace_stand self.now).room }
     {
-        let mut free = self.free();
+        let free = self.free();
         let piece = self.piece.min(free);
-        free -= piece;
-        let mut left = Left {
-            places: piece,
-            interruptions: 0,
-            faults: 0,
-        };
-        let mut steps = self.steps;
-        'steps: while let [kind, amount, rest @ ..] = steps {
-            match Step::new(*kind, *amount) {
-                Step::Places(n) => {
-                    let size = n.min(free);
-                    left.places += size;
-                    free -= size;
-                }
-                Step::Interruption => left.interruptions += 1,
-                Step::Fault(_) => left.faults += 1,
-            }
-            steps = rest;
+        let behind = Left::of_steps(free - piece, self.steps);
+        Left {
+            bytes: piece + behind.bytes,
+            ..behind
         }
-        left
     }
 
     /// How many bytes of the memory are not filled.
@@ -90,37 +67,24 @@ impl<'a, 'b> Trace<'a, 'b> {
 impl Sink for Trace<'_, '_> {
     ghost stand = { trace_stand };
 
-    fn write(&mut self, bytes: &[u8]) -> Result<Took, SinkFault> {
+    fn write(&mut self, bytes: &[u8]) -> Result<Moved, LinkFault> {
         if bytes.is_empty() {
-            return Ok(Took::Bytes(0));
+            return Ok(Moved::Bytes(0));
         }
         'steps: while self.piece.min(self.free()) == 0 {
-            let [kind, amount, rest @ ..] = self.steps else {
-                return Ok(Took::Bytes(0));
+            let [step, rest @ ..] = self.steps else {
+                return Ok(Moved::Bytes(0));
             };
             self.steps = rest;
-            match Step::new(*kind, *amount) {
-                Step::Places(n) => self.piece = n,
-                Step::Interruption => return Ok(Took::Interrupted),
-                Step::Fault(number) => return Err(SinkFault { number }),
+            match Step::from(*step) {
+                Step::Bytes(n) => self.piece = n,
+                Step::Interruption => return Ok(Moved::Interrupted),
+                Step::Fault(number) => return Err(LinkFault { number }),
             }
         }
         let n = put_some(bytes, self.filled, self.piece, self.memory);
         self.filled += n;
         self.piece -= n;
-        Ok(Took::Bytes(n))
-    }
-}
-
-impl Step {
-    /// The step of a kind and an amount.
-    fn new(kind: u8, amount: u8) -> Step
-        ensures { result ≡ step_of kind amount }
-    {
-        match kind {
-            0 => Step::Places(usize::from(amount)),
-            2 => Step::Fault(amount),
-            _ => Step::Interruption,
-        }
+        Ok(Moved::Bytes(n))
     }
 }

@@ -1,5 +1,5 @@
 -- How what is left is counted.
-use Rattle.std.proofs.Common.{◌≡◌, ℕ, ◌+◌, min, List, [], ◌∷◌, ◌++◌, map, length, take, drop, sym, refl, ap, ◌∙◌, zero-add, arith}
+use Rattle.std.proofs.Common.{◌≡◌, ℕ, min, List, [], ◌∷◌, map, length, take, drop, sym, refl, ap, ◌∙◌, arith}
 use Rattle.std.proofs.lemmas.List.{length-take, length-drop}
 use Rattle.links.specs.Items.{byte, interruption, fault, effect}
 use Rattle.traces.specs.Counts.{both, worth, tally, steps_left}
@@ -25,15 +25,6 @@ tally_given bytes (steps.Bytes n ∷ xs) =
 tally_given bytes (steps.Interruption ∷ xs) = ap (both (worth (effect interruption))) (tally_given bytes xs)
 tally_given bytes (steps.Fault k ∷ xs) = ap (both (worth (effect (fault k)))) (tally_given bytes xs)
 
--- a piece, and then what steps give of bytes
-pub tally_trace : (piece bytes : List ℕ) (xs : List Step) (l m : Left) → l ≡ tally effect (map byte piece) → m ≡ steps_left (length bytes) xs →
-    record { bytes = l.bytes + m.bytes; interruptions = m.interruptions; faults = m.faults } ≡ tally effect (map byte piece ++ given_by bytes xs)
-tally_trace piece bytes xs l m first others =
-    let all = tally_append effect (map byte piece) (given_by bytes xs) in
-    let front = first ∙ tally_bytes piece in
-    rw (all, tally_bytes piece, tally_given bytes xs, front, others)
-    (same_left refl (sym (zero-add (steps_left (length bytes) xs).interruptions)) (sym (zero-add (steps_left (length bytes) xs).faults)))
-
--- a piece that counts no bytes has none, and one that counts some has some
+-- the length of a piece by its count
 pub piece_length : (piece : List ℕ) (l : Left) → l ≡ tally effect (map byte piece) → length piece ≡ l.bytes
 piece_length piece l is = sym (ap (λ (m : Left). m.bytes) (is ∙ tally_bytes piece))

@@ -1,5 +1,5 @@
 -- The steps of pairs of bytes.
-use Rattle.std.proofs.Common.{◌≡◌, ℕ, zero, suc, ◌-◌, ◌<◌, ◌/◌, List, [], ◌∷◌, map, length, get_or, take, drop, sym, refl, ap, ◌∙◌, arith}
+use Rattle.std.proofs.Common.{◌≡◌, ℕ, zero, suc, ◌-◌, ◌<◌, ◌/◌, List, [], ◌∷◌, map, length, get_or, take, drop, sym, refl, ap, arith}
 use Rattle.std.proofs.lemmas.List.{nil_from_length, take_rest}
 use Rattle.std.specs.Simd.{first_chunks}
 use Rattle.traces.specs.Steps.{step_of, step_of_pair, steps_in}

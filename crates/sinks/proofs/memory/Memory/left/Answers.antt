@@ -1,6 +1,6 @@
-use Rattle.std.proofs.Common.{ap, ◌∙◌}
-use Rattle.sinks.proofs.Counting.{only_places, tally_all}
+use Rattle.std.proofs.Common.{rules}
+use Rattle.sinks.proofs.Counting.{tally_places}
 use Rattle.sinks.proofs.memory.Memory.left.Goals as goal
 
 pub returns : goal.returns
-returns c = ap only_places c.saturating_sub.ensures ∙ tally_all _
+returns c = search (rules, tally_places)

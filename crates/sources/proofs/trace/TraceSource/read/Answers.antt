@@ -1,12 +1,10 @@
-use Rattle.std.proofs.Common.{◌<◌, ◌++◌, map, length, sym, refl, ap, ◌∙◌, rules}
-use Rattle.std.proofs.lemmas.List.{length-map}
-use Rattle.links.specs.Items.{byte}
+use Rattle.std.proofs.Common.{◌++◌, map, sym, refl, ap, ◌∙◌, rules}
 use Rattle.traces.specs.Steps.{step_of_pair}
 use Rattle.traces.proofs.Pairs.{behind}
 use Rattle.sources.specs.Lists.{given_by}
 use Rattle.sources.proofs.Counting.{piece_length}
 use Rattle.sources.proofs.Stepping.{ends, begins, spends}
-use Rattle.sources.proofs.Giving.{reads_before, gives_none, reads_same}
+use Rattle.sources.proofs.Giving.{gives_none}
 use Rattle.sources.proofs.trace.TraceSource.read.Goals as goal
 
 pub returns-in_default : goal.returns-in_default
@@ -37,10 +35,3 @@ returns-in-Fault c =
     let long = piece_length s.piece.bytes.now _ c.left.ensures.is in
     let spent = spends s.piece.bytes.now s.bytes.now s.steps.now (search rules) _ (search rules) c.from.ensures _ (search rules) in
     record { asked = search rules; spent = sym c.steps.invariant ∙ spent; kept = refl }
-
-pub returns : goal.returns
-returns c =
-    let s = c.steps.self in
-    let long = piece_length s.piece.bytes.now _ c.left.ensures.is in
-    let some : 0 < length (map byte s.piece.bytes.now) = simp length-map (search rules) in
-    reads_same c.read.result _ _ _ _ _ c.steps.invariant (reads_before c.read.result _ _ (given_by s.bytes.now (map step_of_pair s.steps.now)) _ _ some c.read.ensures)
