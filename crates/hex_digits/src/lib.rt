@@ -16,11 +16,12 @@ pub fn u16_to_hex(value: u16) -> [u8; 4]
     ensures is { result ≡ hex value }
     ensures read_back { length_field result ≡ Some value }
 {
+    let [high, low] = value.to_be_bytes();
     [
-        hex_char((value / 4096) as u8),
-        hex_char((value / 256 % 16) as u8),
-        hex_char((value / 16 % 16) as u8),
-        hex_char((value % 16) as u8),
+        hex_char(high / 16),
+        hex_char(high % 16),
+        hex_char(low / 16),
+        hex_char(low % 16),
     ]
 }
 

@@ -46,40 +46,20 @@ abbrev code_4 : ℕ → ℕ → ℕ → ℕ → ℕ
 code_4 a b c d = (a - 240) * 262144 + (b - 128) * 4096 + (c - 128) * 64 + (d - 128)
 
 spelt_2 : (a b : ℕ) → In 194 223 a → Tail b → encode (code_2 a b) ≡ a ∷ b ∷ []
-spelt_2 a b h k =
-    let p : 192 + code_2 a b / 64 ≡ a = omega arith in
-    let q : 128 + code_2 a b % 64 ≡ b = omega arith in
-    let e = encode_2 (code_2 a b) (omega arith) (omega arith) in
-    cc
+spelt_2 a b h k = grind (arith, encode_2)
 
 spelt_3 : (a b c : ℕ) → In 224 239 a → Tail b → Tail c → 2048 ≤ code_3 a b c → encode (code_3 a b c) ≡ a ∷ b ∷ c ∷ []
-spelt_3 a b c h k l m =
-    let p : 224 + code_3 a b c / 4096 ≡ a = omega arith in
-    let q : 128 + code_3 a b c / 64 % 64 ≡ b = omega arith in
-    let r : 128 + code_3 a b c % 64 ≡ c = omega arith in
-    let e = encode_3 (code_3 a b c) m (omega arith) in
-    cc
+spelt_3 a b c h k l m = grind (arith, encode_3)
 
 spelt_4 : (a b c d : ℕ) → In 240 244 a → Tail b → Tail c → Tail d → 65536 ≤ code_4 a b c d → encode (code_4 a b c d) ≡ a ∷ b ∷ c ∷ d ∷ []
-spelt_4 a b c d h k l m n =
-    let p : 240 + code_4 a b c d / 262144 ≡ a = omega arith in
-    let q : 128 + code_4 a b c d / 4096 % 64 ≡ b = omega arith in
-    let r : 128 + code_4 a b c d / 64 % 64 ≡ c = omega arith in
-    let t : 128 + code_4 a b c d % 64 ≡ d = omega arith in
-    let e = encode_4 (code_4 a b c d) n in
-    cc
+spelt_4 a b c d h k l m n = grind (arith, encode_4)
 
 -- what the grammar says of the first two octets, in one range each, and of the code
 three_code : (a b c : ℕ) → Three a b → Tail c → In 224 239 a × Tail b × (2048 ≤ code_3 a b c) × Scalar (code_3 a b c)
-three_code a b c (inl h) k = ((omega arith, omega arith), (omega arith, omega arith), omega arith, inl (omega arith))
-three_code a b c (inr (inl h)) k = ((omega arith, omega arith), (omega arith, omega arith), omega arith, inl (omega arith))
-three_code a b c (inr (inr (inl h))) k = ((omega arith, omega arith), (omega arith, omega arith), omega arith, inl (omega arith))
-three_code a b c (inr (inr (inr h))) k = ((omega arith, omega arith), (omega arith, omega arith), omega arith, inr (omega arith, omega arith))
+three_code a b c h k = grind arith
 
 four_code : (a b c d : ℕ) → Four a b → Tail c → Tail d → In 240 244 a × Tail b × (65536 ≤ code_4 a b c d) × Scalar (code_4 a b c d)
-four_code a b c d (inl h) k l = ((omega arith, omega arith), (omega arith, omega arith), omega arith, inr (omega arith, omega arith))
-four_code a b c d (inr (inl h)) k l = ((omega arith, omega arith), (omega arith, omega arith), omega arith, inr (omega arith, omega arith))
-four_code a b c d (inr (inr h)) k l = ((omega arith, omega arith), (omega arith, omega arith), omega arith, inr (omega arith, omega arith))
+four_code a b c d h k l = grind arith
 
 pub to_text : (s : List ℕ) → Octets s → IsUtf8 s
 to_text s none = IsUtf8-nil
@@ -92,21 +72,10 @@ to_text s (utf8_4 a b c d t h k l o) =
 
 -- the first two octets of an encoding, by the ranges of the grammar
 three_of : (c : ℕ) → 2048 ≤ c → c < 65536 → Scalar c → Three (224 + c / 4096) (128 + c / 64 % 64)
-three_of c l h s = by (cases_lt c 4096) (cases_lt c 53248) s
-  where
-    by : (c < 4096) ⊎ (4096 ≤ c) → (c < 53248) ⊎ (53248 ≤ c) → Scalar c → Three (224 + c / 4096) (128 + c / 64 % 64)
-    by (inl i) j k = inl (omega arith, (omega arith, omega arith))
-    by (inr i) (inl j) k = inr (inl ((omega arith, omega arith), (omega arith, omega arith)))
-    by (inr i) (inr j) (inl k) = inr (inr (inl (omega arith, (omega arith, omega arith))))
-    by (inr i) (inr j) (inr k) = inr (inr (inr ((omega arith, omega arith), (omega arith, omega arith))))
+three_of c l h s = grind arith
 
 four_of : (c : ℕ) → 65536 ≤ c → c < 1114112 → Four (240 + c / 262144) (128 + c / 4096 % 64)
-four_of c l h = by (cases_lt c 262144) (cases_lt c 1048576)
-  where
-    by : (c < 262144) ⊎ (262144 ≤ c) → (c < 1048576) ⊎ (1048576 ≤ c) → Four (240 + c / 262144) (128 + c / 4096 % 64)
-    by (inl i) j = inl (omega arith, (omega arith, omega arith))
-    by (inr i) (inl j) = inr (inl ((omega arith, omega arith), (omega arith, omega arith)))
-    by (inr i) (inr j) = inr (inr (omega arith, (omega arith, omega arith)))
+four_of c l h = grind arith
 
 below_top : (c : ℕ) → Scalar c → c < 1114112
 below_top c h = grind arith

@@ -1,18 +1,6 @@
 -- What stands at the front of octets, and may be cut off there.
 use Rattle.std.specs.Prelude.{◌≡◌, ℕ, ◌<◌, ◌≤◌, List, [], length, drop, slice_index}
-use Rattle.utf8.specs.Rfc3629.{In, Tail, Three, Four, Octets}
-
--- s begins with UTF8-2
-abbrev pub StartsTwo : List ℕ → Type 0
-StartsTwo s = (2 ≤ length s) × In 194 223 (slice_index s 0) × Tail (slice_index s 1)
-
--- s begins with UTF8-3
-abbrev pub StartsThree : List ℕ → Type 0
-StartsThree s = (3 ≤ length s) × Three (slice_index s 0) (slice_index s 1) × Tail (slice_index s 2)
-
--- s begins with UTF8-4
-abbrev pub StartsFour : List ℕ → Type 0
-StartsFour s = (4 ≤ length s) × Four (slice_index s 0) (slice_index s 1) × Tail (slice_index s 2) × Tail (slice_index s 3)
+use Rattle.utf8.specs.Rfc3629.{Octets}
 
 -- no character stands at the front of s
 abbrev pub NoCharacter : List ℕ → Type 0
