@@ -1,5 +1,5 @@
 -- How what is left is counted.
-use Rattle.std.proofs.Common.{◌≡◌, ℕ, zero, suc, ◌-◌, min, List, [], ◌∷◌, ◌++◌, replicate, refl, ap, ◌∙◌, arith}
+use Rattle.std.proofs.Common.{◌≡◌, ℕ, zero, suc, ◌-◌, min, List, [], ◌∷◌, replicate, refl, ap, ◌∙◌, arith}
 use Rattle.links.specs.Slots.{place, interrupts, fails, slot_effect}
 use Rattle.traces.specs.Counts.{both, worth, tally, steps_left}
 use Rattle.traces.specs.declared.Step.{Step}

@@ -1,4 +1,3 @@
 pub mod Placing
 pub mod Stepping
 pub mod Counting
-pub mod Ending

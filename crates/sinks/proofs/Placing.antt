@@ -3,7 +3,7 @@ use Rattle.std.proofs.Common.{◌≡◌, ℕ, ◌+◌, ◌-◌, ◌<◌, ◌≤�
 use Rattle.std.proofs.lemmas.List.{append-nil, append_assoc, length-take-le, length-append, length-drop, nil_from_length, take-append-drop, take_at, drop_at, drop-drop, replicate-append-replicate}
 use Rattle.std.proofs.lemmas.Bool.{cases_lt}
 use Rattle.links.specs.Slots.{Slot, place, Stand}
-use Rattle.links.specs.Writes.{Takes, Spends}
+use Rattle.links.specs.Writes.{Takes}
 use Rattle.sinks.specs.Stands.{put, filled_stand}
 
 pub put_none : (memory : List ℕ) (at : ℕ) (bytes : List ℕ) → length bytes ≡ 0 → memory ≡ put memory at bytes
@@ -61,6 +61,3 @@ uses_places all n rest parts = ap (λ k. replicate k place) parts ∙ sym (repli
 
 pub takes_same : {s s' t : Stand} {bytes : List ℕ} {n : ℕ} → s ≡ s' → Takes s bytes n t → Takes s' bytes n t
 takes_same {t = t} {bytes = bytes} {n = n} same w = subst (λ x. Takes x bytes n t) same w
-
-pub spends_same : {slot : Slot} {s s' t : Stand} {bytes : List ℕ} → s ≡ s' → Spends slot s bytes t → Spends slot s' bytes t
-spends_same {slot = slot} {t = t} {bytes = bytes} same w = subst (λ x. Spends slot x bytes t) same w

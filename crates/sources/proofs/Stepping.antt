@@ -2,12 +2,15 @@
 use Rattle.std.proofs.Common.{◌≡◌, ℕ, ◌<◌, ◌≤◌, min, ◌⊎◌, List, [], ◌∷◌, ◌++◌, map, length, get_or, take, drop, sym, ap, ◌∙◌, inl, inr, arith}
 use Rattle.std.proofs.lemmas.List.{nil_from_length, take_all, drop_all}
 use Rattle.std.proofs.lemmas.Bool.{cases_lt}
-use Rattle.links.specs.Items.{Item, byte}
+use Rattle.links.specs.Items.{Item, byte, effect}
+use Rattle.traces.specs.Counts.{tally}
+use Rattle.traces.specs.declared.Left.{Left}
 use Rattle.traces.specs.declared.Step.{Step}
 use Rattle.traces.specs.declared.Step.TheVariants as steps
 use Rattle.traces.specs.Steps.{step_of_pair}
 use Rattle.traces.proofs.Pairs.{behind, no_step, first_step}
 use Rattle.sources.specs.Lists.{given_by}
+use Rattle.sources.proofs.Counting.{piece_length}
 
 -- a step of n bytes gives a piece, which is n of them or all, and leaves the others to the steps behind it
 gives_piece : (bytes piece others : List ℕ) (n size : ℕ) (rest : List Step) → size ≡ min n (length bytes) → piece ≡ take size bytes → others ≡ drop size bytes →
@@ -20,9 +23,9 @@ gives_piece bytes piece others n size rest least front back = rw (front, back) (
       rw (take_all n bytes h, drop_all n bytes h, take_all size bytes all, drop_all size bytes all)
 
 -- A trace whose begun step has given all its bytes.
-module _ (begun bytes : List ℕ) (coded : List (List ℕ)) (given : length begun ≡ 0) where
+module _ (begun bytes : List ℕ) (coded : List (List ℕ)) (left : Left) (counts : left ≡ tally effect (map byte begun)) (given : left.bytes ≡ 0) where
   none_begun : (items : List Item) → map byte begun ++ items ≡ items
-  none_begun items = rw (nil_from_length begun given)
+  none_begun items = rw (nil_from_length begun (piece_length begun left counts ∙ given))
 
   pub ends : length coded < 1 → map byte begun ++ given_by bytes (map step_of_pair coded) ≡ []
   ends h = none_begun (given_by bytes (map step_of_pair coded)) ∙ ap (given_by bytes) (no_step coded h)

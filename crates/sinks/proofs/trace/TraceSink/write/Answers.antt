@@ -1,8 +1,7 @@
-use Rattle.std.proofs.Common.{◌+◌, ◌-◌, map, length, refl, ap, ◌∙◌, arith, rules, false-eqb}
+use Rattle.std.proofs.Common.{◌+◌, ◌-◌, map, length, arith}
 use Rattle.traces.specs.Steps.{step_of_pair}
-use Rattle.sinks.specs.Stands.{filled_stand}
-use Rattle.sinks.proofs.Placing.{placed, takes, takes_same, spends_same}
-use Rattle.sinks.proofs.Stepping.{begins, spends, uses}
+use Rattle.sinks.proofs.Placing.{placed, takes, takes_same}
+use Rattle.sinks.proofs.Stepping.{uses}
 use Rattle.sinks.proofs.trace.TraceSink.write.Goals as goal
 
 pub returns : goal.returns
