@@ -8,7 +8,7 @@ use lines::decode::{DecodeFault, Stream, streaming};
 use lines::{PacketLineRef, U16_HEX_BYTES};
 
 /// What stands at one offset of a capture.
-#[derive(Clone, Copy)]
+#[derive(Clone, Copy, Debug, PartialEq, Eq, Hash)]
 pub enum Entry<'a> {
     /// A packet line.
     Line {
@@ -78,7 +78,7 @@ pub fn next_entry(bytes: &[u8], at_end: bool) -> Option<Entry<'_>>
 }
 
 /// The entries that bytes begin with, one after another.
-#[derive(Debug, Drop)]
+#[derive(Clone, Debug, Drop)]
 pub struct Entries<'a> {
     rest: &'a [u8],
     at_end: bool,
