@@ -22,16 +22,20 @@ pub record Worth : Type 0 where
   pub refusals : Option ℕ
   pub missing_bytes : Option ℕ
 
+-- what adds nothing
+abbrev pub worthless : Worth
+worthless = record { data_lines = None; flushes = None; delimiters = None; response_ends = None; payload_bytes = None; refusals = None; missing_bytes = None }
+
 abbrev pub line_worth : Line → Worth
-line_worth (payload d) = record { data_lines = Some 1; flushes = None; delimiters = None; response_ends = None; payload_bytes = Some (length d); refusals = None; missing_bytes = None }
-line_worth flush = record { data_lines = None; flushes = Some 1; delimiters = None; response_ends = None; payload_bytes = None; refusals = None; missing_bytes = None }
-line_worth delimiter = record { data_lines = None; flushes = None; delimiters = Some 1; response_ends = None; payload_bytes = None; refusals = None; missing_bytes = None }
-line_worth response_end = record { data_lines = None; flushes = None; delimiters = None; response_ends = Some 1; payload_bytes = None; refusals = None; missing_bytes = None }
+line_worth (payload d) = record worthless { data_lines = Some 1; payload_bytes = Some (length d) }
+line_worth flush = record worthless { flushes = Some 1 }
+line_worth delimiter = record worthless { delimiters = Some 1 }
+line_worth response_end = record worthless { response_ends = Some 1 }
 
 abbrev pub worth : Found → Worth
 worth (line l n) = line_worth l
-worth (refused p e) = record { data_lines = None; flushes = None; delimiters = None; response_ends = None; payload_bytes = None; refusals = Some 1; missing_bytes = None }
-worth (cut n m) = record { data_lines = None; flushes = None; delimiters = None; response_ends = None; payload_bytes = None; refusals = None; missing_bytes = Some m }
+worth (refused p e) = record worthless { refusals = Some 1 }
+worth (cut n m) = record worthless { missing_bytes = Some m }
 
 -- how many refused prefixes stand in a row, with an entry more
 abbrev pub row : ℕ → Found → ℕ

@@ -1,5 +1,6 @@
 -- What stands in a capture.
-use Rattle.std.specs.Prelude.{ℕ, Bool, cond, List, length, take, Some, None, Ok, Err, Option, Result, ◌==◌}
+use Rattle.std.specs.Prelude.{◌≡◌, ℕ, Bool, cond, List, length, take, drop, Some, None, Ok, Err, Option, Result, ◌==◌}
+use Rattle.std.specs.Option.{option_map}
 use Rattle.lines.specs.Refusals.{Refusal}
 use Rattle.lines.specs.Format.{Line}
 use Rattle.lines.specs.Decoding.{Streamed, complete, incomplete, streamed}
@@ -34,3 +35,13 @@ abbrev pub entry_of : Entry → Found
 entry_of (entries.Line l n) = line (line_of l) n
 entry_of (entries.Refused p e) = refused p.now (decode_refusal e)
 entry_of (entries.Cut n m) = cut n m
+
+-- the bytes behind the entry that s begins with, if it begins with one
+abbrev pub behind : Option Found → List ℕ → List ℕ
+behind None s = s
+behind (Some e) s = drop (size e) s
+
+-- the entry e, if there is one, is taken off the bytes s, and the bytes t are left
+pub record Taken (at_end : Bool) (s : List ℕ) (e : Option Entry) (t : List ℕ) : Type 0 where
+  pub is : option_map entry_of e ≡ entered at_end s
+  pub rest : t ≡ behind (entered at_end s) s

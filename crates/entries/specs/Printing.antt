@@ -1,5 +1,6 @@
 -- How bytes are printed.
-use Rattle.std.specs.Prelude.{◌≡◌, ℕ, Bool, true, cond, ◌&&◌, ◌||◌, ◌==◌, nat_le}
+use Rattle.std.specs.Prelude.{◌≡◌, ℕ, ◌/◌, ◌%◌, Bool, true, false, cond, ◌&&◌, ◌||◌, List, [], ◌∷◌, ◌++◌, codes, ◌==◌, nat_le, encode_utf8}
+use Rattle.std.specs.Fmt.{digit_glyph}
 use Rattle.entries.specs.declared.payload.Spelling.{Spelling}
 use Rattle.entries.specs.declared.payload.Spelling.TheVariants.{Same, Escaped, Hex}
 
@@ -20,3 +21,9 @@ spelling b =
     (cond (b == 34) (Escaped 34)
     (cond (b == 92) (Escaped 92)
     (cond (nat_le 32 b && nat_le b 126) (Same b) (Hex b)))))))
+
+-- the characters of a spelling; digits are in lower case
+abbrev pub written : Spelling → List ℕ
+written (Same c) = encode_utf8 c
+written (Escaped c) = codes "\\" ++ encode_utf8 c
+written (Hex b) = codes "\\x" ++ (digit_glyph false (b / 16) ∷ digit_glyph false (b % 16) ∷ [])

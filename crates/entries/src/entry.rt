@@ -1,13 +1,14 @@
 //! What a capture holds, one entry after another.
 ghost use Rattle.std.specs.Prelude.{◌≡◌, ◌<◌, ◌≤◌, length, IfSome};
 ghost use Rattle.std.specs.Option.{option_map};
-ghost use Rattle.entries.specs.Entries.{entered, entry_of, size};
+ghost use Rattle.entries.specs.Entries.{entered, entry_of, size, Taken};
+ghost use Rattle.std.specs.Iterator.{at_most};
 
 use lines::decode::{DecodeFault, Stream, streaming};
 use lines::{PacketLineRef, U16_HEX_BYTES};
 
 /// What stands at one offset of a capture.
-#[derive(Clone, Copy)]
+#[derive(Clone, Copy, Debug, PartialEq, Eq, Hash)]
 pub enum Entry<'a> {
     /// A packet line.
     Line {
@@ -58,25 +59,61 @@ pub fn next_entry(bytes: &[u8], at_end: bool) -> Option<Entry<'_>>
         Ok(
             Stream::Complete {
                 line,
-                bytes_consumed,
+                bytes_consumed: length,
             },
-        ) => Some(Entry::Line {
-            line,
-            length: bytes_consumed,
+        ) => Some(Entry::Line { line, length }),
+        Ok(
+            Stream::Incomplete {
+                bytes_needed: missing,
+            },
+        ) => at_end.then_some(Entry::Cut {
+            length: bytes.len(),
+            missing,
         }),
-        Ok(Stream::Incomplete { bytes_needed }) => {
-            if at_end {
-                Some(Entry::Cut {
-                    length: bytes.len(),
-                    missing: bytes_needed,
-                })
-            } else {
-                None
-            }
-        }
         Err(fault) => Some(Entry::Refused {
-            prefix: &bytes[0..U16_HEX_BYTES],
+            prefix: &bytes[..U16_HEX_BYTES],
             fault,
         }),
+    }
+}
+
+/// The entries that bytes begin with, one after another.
+#[derive(Clone, Debug, Drop)]
+pub struct Entries<'a> {
+    rest: &'a [u8],
+    at_end: bool,
+}
+
+impl<'a> Entries<'a> {
+    /// The entries of `bytes`; `at_end` says that no more bytes come.
+    pub fn new(bytes: &'a [u8], at_end: bool) -> Entries<'a>
+        ensures rest { result.rest.now ≡ bytes.now }
+        ensures at_end { result.at_end ≡ at_end }
+    {
+        Entries {
+            rest: bytes,
+            at_end,
+        }
+    }
+
+    /// The bytes behind the entries that were taken.
+    pub fn rest(&self) -> &'a [u8]
+        ensures { result.now ≡ self.now.rest.now }
+    {
+        self.rest
+    }
+}
+
+impl<'a> Iterator for Entries<'a> {
+    type Item = Entry<'a>;
+
+    ghost next_gives = { λ s e t. Taken s.at_end s.rest.now e t.rest.now × (t.at_end ≡ s.at_end) };
+
+    ghost remaining = { λ s. at_most (length s.rest.now) };
+
+    fn next(&mut self) -> Option<Entry<'a>> {
+        let entry = next_entry(self.rest, self.at_end)?;
+        self.rest = &self.rest[entry.length()..];
+        Some(entry)
     }
 }

@@ -1,7 +1,7 @@
 //! The count of what a capture holds.
 ghost use Rattle.std.specs.Prelude.{◌≡◌, nat_le};
 ghost use Rattle.entries.specs.Entries.{entry_of};
-ghost use Rattle.entries.specs.Counts.{Counted, Left};
+ghost use Rattle.entries.specs.Counts.{Counted, Left, plus};
 
 use crate::entry::Entry;
 use lines::PacketLineRef;
@@ -10,7 +10,7 @@ use lines::PacketLineRef;
 pub const MOST_REFUSALS: u64 = 8;
 
 /// What a capture holds, as far as it was counted.
-#[derive(Clone, Copy, Default)]
+#[derive(Clone, Copy, Debug, Default, PartialEq, Eq, Hash)]
 pub struct Totals {
     /// Lines with a payload.
     pub data_lines: u64,
@@ -39,39 +39,27 @@ impl Totals {
     pub fn add(&mut self, entry: &Entry<'_>)
         ensures { Counted self.old (entry_of entry.now) self.new }
     {
-        let in_a_row = self.in_a_row;
-        self.in_a_row = 0;
-        self.bytes = self.bytes.saturating_add(entry.length() as u64);
+        count(&mut self.bytes, entry.length());
         match entry {
-            Entry::Line {
-                line: PacketLineRef::Data(payload),
-                ..
-            } => {
-                self.data_lines = self.data_lines.saturating_add(1);
-                self.payload_bytes = self.payload_bytes.saturating_add(payload.len() as u64);
-            }
-            Entry::Line {
-                line: PacketLineRef::Flush,
-                ..
-            } => self.flushes = self.flushes.saturating_add(1),
-            Entry::Line {
-                line: PacketLineRef::Delimiter,
-                ..
-            } => {
-                self.delimiters = self.delimiters.saturating_add(1);
-            }
-            Entry::Line {
-                line: PacketLineRef::ResponseEnd,
-                ..
-            } => {
-                self.response_ends = self.response_ends.saturating_add(1);
+            Entry::Line { line, .. } => {
+                self.in_a_row = 0;
+                match line {
+                    PacketLineRef::Data(payload) => {
+                        count(&mut self.data_lines, 1);
+                        count(&mut self.payload_bytes, payload.len());
+                    }
+                    PacketLineRef::Flush => count(&mut self.flushes, 1),
+                    PacketLineRef::Delimiter => count(&mut self.delimiters, 1),
+                    PacketLineRef::ResponseEnd => count(&mut self.response_ends, 1),
+                }
             }
             Entry::Refused { .. } => {
-                self.refusals = self.refusals.saturating_add(1);
-                self.in_a_row = in_a_row.saturating_add(1);
+                count(&mut self.in_a_row, 1);
+                count(&mut self.refusals, 1);
             }
             Entry::Cut { missing, .. } => {
-                self.missing_bytes = self.missing_bytes.saturating_add(*missing as u64);
+                self.in_a_row = 0;
+                count(&mut self.missing_bytes, *missing);
             }
         }
     }
@@ -87,7 +75,15 @@ impl Totals {
     pub fn leave(&mut self, bytes: usize)
         ensures { Left self.old bytes self.new }
     {
-        self.bytes = self.bytes.saturating_add(bytes as u64);
-        self.undecoded = self.undecoded.saturating_add(bytes as u64);
+        count(&mut self.bytes, bytes);
+        count(&mut self.undecoded, bytes);
     }
+}
+
+/// Adds to a number, which stays at the largest of 64 bits.
+fn count(total: &mut u64, more: usize)
+    ensures { total.new ≡ plus total.old more }
+{
+    // Kept: `u64` has no `From<usize>`.
+    *total = total.saturating_add(more as u64);
 }

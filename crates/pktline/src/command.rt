@@ -6,7 +6,7 @@ ghost use Rattle.pktline.specs.Arguments.{asked, asked_show, asked_file, starts_
 use std::fmt;
 
 /// What the program is to do.
-#[derive(Clone, Copy)]
+#[derive(Clone, Copy, Debug, PartialEq, Eq, Hash)]
 pub enum Command<'a> {
     /// Say how the program is used.
     Help,
@@ -20,7 +20,7 @@ pub enum Command<'a> {
 }
 
 /// Why the arguments ask for nothing that the program does.
-#[derive(Clone, Copy)]
+#[derive(Clone, Copy, Debug, PartialEq, Eq, Hash)]
 pub enum Misuse<'a> {
     /// No such command.
     UnknownCommand(&'a str),
@@ -47,7 +47,7 @@ impl fmt::Display for Misuse<'_> {
 pub fn parse(words: &[String]) -> Result<Command<'_>, Misuse<'_>>
     ensures { answered asked_of misuse_of result ≡ asked (map string_bytes words.now) }
 {
-    let [verb, rest @ ..] = words else {
+    let Some((verb, rest)) = words.split_first() else {
         return Ok(Command::Help);
     };
     match verb.as_str() {
@@ -60,13 +60,9 @@ pub fn parse(words: &[String]) -> Result<Command<'_>, Misuse<'_>>
 fn show_command(words: &[String]) -> Result<Command<'_>, Misuse<'_>>
     ensures { answered asked_of misuse_of result ≡ asked_show (map string_bytes words.now) }
 {
-    let [first, rest @ ..] = words else {
-        return Err(Misuse::NoFile);
-    };
-    if first.as_str() == "--bands" {
-        file_command(rest, true)
-    } else {
-        file_command(words, false)
+    match words {
+        [first, rest @ ..] if first.as_str() == "--bands" => file_command(rest, true),
+        _ => file_command(words, false),
     }
 }
 
@@ -87,8 +83,5 @@ fn file_command(words: &[String], bands: bool) -> Result<Command<'_>, Misuse<'_>
 fn is_option(word: &str) -> bool
     ensures { result ≡ starts_option word.now }
 {
-    match word.as_bytes() {
-        [] => false,
-        [first, ..] => *first == b'-',
-    }
+    word.starts_with('-')
 }

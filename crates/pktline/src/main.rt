@@ -1,8 +1,6 @@
 //! Shows the packet lines of a capture.
 #![tactic(auto)]
 
-ghost use Rattle.std.specs.Prelude.{◌≤◌, length, IfOk};
-
 mod closing;
 mod command;
 mod payload;
@@ -10,7 +8,7 @@ mod row;
 
 use closing::Closing;
 use command::{Command, parse};
-use entries::entry::next_entry;
+use entries::entry::{Entries, Entry};
 use entries::totals::Totals;
 use row::{Row, Titles};
 use std::alloc::AllocError;
@@ -32,7 +30,7 @@ length with the prefix, its kind, and its payload as text or hexadecimal digits.
 ";
 
 /// Why a capture was not shown to its end.
-#[derive(Drop)]
+#[derive(Debug, Drop)]
 enum Failure {
     /// The capture was not read.
     Capture(io::Error),
@@ -74,11 +72,7 @@ fn fail(rt: &HostRuntime, why: impl Display + Drop) -> ExitCode {
 }
 
 fn arguments(rt: &HostRuntime) -> io::Result<Vec<String>> {
-    let mut words = Vec::new(rt.alloc());
-    for word in env::args(rt)?.skip(1) {
-        words.push(word)?;
-    }
-    Ok(words)
+    Ok(env::args(rt)?.skip(1).collect(rt.alloc())?)
 }
 
 fn show_file(rt: &HostRuntime, file: &str, bands: bool) -> ExitCode {
@@ -90,87 +84,87 @@ fn show_file(rt: &HostRuntime, file: &str, bands: bool) -> ExitCode {
 }
 
 fn show(rt: &HostRuntime, file: &str, bands: bool) -> Result<(), Failure> {
-    let mut capture = reading(File::open(rt, file))?;
+    let mut capture = File::open(rt, file).map_err(Failure::Capture)?;
     let mut held = Vec::new(rt.alloc());
-    let more = reading(read_piece(&mut capture, &mut held))?;
-    let mut out = BufWriter::new(rt.alloc(), rt.stdout())?;
-    out.writeln(Titles { bands })?;
-    let totals = show_pieces(&mut out, &mut capture, held, more, bands)?;
-    out.write_fmt(Closing(totals))?;
-    out.flush()?;
+    // A capture that cannot be read gets no titles.
+    let mut length = read_piece(&mut capture, &mut held).map_err(Failure::Capture)?;
+    let mut listing = Listing::new(BufWriter::new(rt.alloc(), rt.stdout())?, bands)?;
+    // Kept: every loop must end, so this one counts.
+    for _ in 0..u64::MAX {
+        if length == 0 {
+            break;
+        }
+        held = listing.show(&held, false)?.to_vec(rt.alloc())?;
+        length = read_piece(&mut capture, &mut held).map_err(Failure::Capture)?;
+    }
+    listing.show(&held, true)?;
+    listing.close()?;
     Ok(())
 }
 
-/// Shows what `held` and the rest of a capture hold, and counts it; `more` says that there may be a rest.
-fn show_pieces<W: Write>(
-    out: &mut W,
-    capture: &mut File,
-    mut held: Vec<u8>,
-    mut more: bool,
-    bands: bool,
-) -> Result<Totals, Failure> {
-    let mut totals = Totals::default();
+/// Adds the next piece of a capture to `held`, and answers its length: 0 at the end.
+fn read_piece(capture: &mut File, held: &mut Vec<u8>) -> io::Result<usize> {
+    // Kept: a `BufReader` would hold this array in its place, and is no plainer.
+    let mut piece = [0; PIECE];
+    // Kept: every loop must end, so this one counts.
     for _ in 0..u64::MAX {
-        let taken = show_entries(out, held.as_slice(), !more, bands, &mut totals)?;
-        held = held.split_off(taken)?;
-        if !more {
-            break;
-        }
-        more = reading(read_piece(capture, &mut held))?;
-    }
-    Ok(totals)
-}
-
-/// Tells a failure to read from a failure to write, which `?` takes an `io::Error` for.
-fn reading<T>(res: io::Result<T>) -> Result<T, Failure> {
-    match res {
-        Ok(value) => Ok(value),
-        Err(error) => Err(Failure::Capture(error)),
-    }
-}
-
-/// Adds the next piece of a capture to `held`; `false` where none is left.
-fn read_piece(capture: &mut File, held: &mut Vec<u8>) -> io::Result<bool> {
-    let mut piece = [0u8; PIECE];
-    match capture.read(&mut piece) {
-        Ok(0) => Ok(false),
-        Ok(length) => {
-            held.extend_from_slice(&piece[0..length])?;
-            Ok(true)
-        }
-        Err(error) if error.kind() == ErrorKind::Interrupted => Ok(true),
-        Err(error) => Err(error),
-    }
-}
-
-/// Shows what `bytes` hold, entry by entry, and says how many bytes that took.
-fn show_entries<W: Write>(
-    out: &mut W,
-    bytes: &[u8],
-    at_end: bool,
-    bands: bool,
-    totals: &mut Totals,
-) -> io::Result<usize>
-    ensures { IfOk result (λ n. n ≤ length bytes.now) }
-{
-    let mut taken = 0;
-    while let Some(entry) = next_entry(&bytes[taken..], at_end) {
-        if totals.gives_up() {
-            totals.leave(bytes.len() - taken);
-            return Ok(bytes.len());
-        }
-        let offset = totals.bytes;
-        writeln!(
-            out,
-            "{}",
-            Row {
-                offset,
-                entry,
-                bands
+        match capture.read(&mut piece) {
+            Ok(length) => {
+                held.extend_from_slice(&piece[..length])?;
+                return Ok(length);
             }
-        )?;
-        totals.add(&entry);
-        taken += entry.length();
+            Err(error) if error.kind() == ErrorKind::Interrupted => {}
+            Err(error) => return Err(error),
+        }
     }
-    Ok(taken)
+    Ok(0)
+}
+
+/// The rows of a capture as they are printed, and the count of what they show.
+#[derive(Drop)]
+struct Listing<W> {
+    out: W,
+    bands: bool,
+    totals: Totals,
+}
+
+impl<W: Write + Drop> Listing<W> {
+    /// A listing that has its titles; `bands` says whether it has a column for bands.
+    fn new(mut out: W, bands: bool) -> io::Result<Listing<W>> {
+        out.writeln(Titles { bands })?;
+        Ok(Listing {
+            out,
+            bands,
+            totals: Totals::default(),
+        })
+    }
+
+    /// Shows what `bytes` hold, entry by entry, and answers the bytes that begin no entry yet; `at_end` says that no more come.
+    fn show<'a>(&mut self, bytes: &'a [u8], at_end: bool) -> io::Result<&'a [u8]> {
+        let mut entries = Entries::new(bytes, at_end);
+        while !self.totals.gives_up() {
+            let Some(entry) = entries.next() else {
+                return Ok(entries.rest());
+            };
+            self.show_entry(entry)?;
+        }
+        self.totals.leave(entries.rest().len());
+        Ok(&[])
+    }
+
+    fn show_entry(&mut self, entry: Entry<'_>) -> io::Result<()> {
+        self.out.writeln(Row {
+            offset: self.totals.bytes,
+            entry,
+            bands: self.bands,
+        })?;
+        self.totals.add(&entry);
+        Ok(())
+    }
+
+    /// Closes the listing with the count.
+    fn close(mut self) -> io::Result<()> {
+        self.out.write_fmt(Closing(self.totals))?;
+        self.out.flush()
+    }
 }
