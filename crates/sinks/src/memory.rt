@@ -9,8 +9,8 @@ use links::{LinkFault, Moved};
 use traces::Left;
 
 /// A sink over lent memory, which it fills from the front.
-// Kept: `memory` and `filled` stand here and in a trace's sink, and `front` and `put_some` take both. In one struct
-// inside the sinks they would be plainer, but then nothing is proved of the lent memory when a sink is dropped.
+// Kept: `memory` and `filled` stand here and in a trace's sink, and `put_some` takes both. In one struct inside
+// the sinks they would be plainer, but then nothing is proved of the lent memory when a sink is dropped.
 #[derive(Debug, Drop)]
 pub struct Memory<'a> {
     memory: &'a mut [u8],
@@ -29,7 +29,7 @@ impl<'a> Memory<'a> {
     pub fn accepted(&self) -> &[u8]
         ensures { result.now ≡ (memory_stand self.now).accepted }
     {
-        front(self.memory, self.filled)
+        &self.memory[..self.filled.min(self.memory.len())]
     }
 
     /// Counts what is still to come.
@@ -51,13 +51,6 @@ impl Sink for Memory<'_> {
         self.filled += n;
         Ok(Moved::Bytes(n))
     }
-}
-
-/// The first `filled` bytes of `memory`, or all.
-pub(crate) fn front(memory: &[u8], filled: usize) -> &[u8]
-    ensures { result.now ≡ take filled memory.now }
-{
-    &memory[..filled.min(memory.len())]
 }
 
 /// Copies what fits from the front of `bytes`, and no more than `most`, to the place `at` in `memory`.

@@ -4,7 +4,7 @@ ghost use Rattle.links.specs.Slots.{slot_effect};
 ghost use Rattle.traces.specs.Counts.{tally};
 ghost use Rattle.sinks.specs.Stands.{trace_stand, fresh_trace};
 
-use crate::memory::{front, put_some};
+use crate::memory::put_some;
 use links::sink::Sink;
 use links::{LinkFault, Moved};
 use traces::{Left, Step};
@@ -40,7 +40,7 @@ impl<'a, 'b> Trace<'a, 'b> {
     pub fn accepted(&self) -> &[u8]
         ensures { result.now ≡ (trace_stand self.now).accepted }
     {
-        front(self.memory, self.filled)
+        &self.memory[..self.filled.min(self.memory.len())]
     }
 
     /// Counts what is still to come.
