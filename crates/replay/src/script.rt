@@ -5,21 +5,22 @@ ghost use Rattle.replay.specs.declared.script.ScriptFault.TheVariants.{Memory};
 use crate::terms::{ScriptLine, parse_band, parse_bytes, parse_line, parse_number};
 use lines::Channel;
 use std::alloc::{AllocError, AllocFailed, Global};
+use std::error::Error;
 use std::fmt;
 
 /// What a line of a script asks for.
-#[derive(Drop)]
+#[derive(Debug, Drop)]
 pub enum Step<'a> {
     /// Nothing: it is empty or a comment.
     Nothing,
     /// The beginning of the case of this name.
     Case(&'a str),
-    /// A call.
-    Call(Call),
+    /// A call, behind the word that names it.
+    Call(&'a str, Call),
 }
 
 /// A call on packet lines, by the name of its function.
-#[derive(Drop)]
+#[derive(Debug, Drop)]
 pub enum Call {
     /// `hex_prefix BYTES`
     HexPrefix(Vec<u8>),
@@ -46,7 +47,7 @@ pub enum Call {
 }
 
 /// Why a line is no step of a script.
-#[derive(Clone, Copy)]
+#[derive(Clone, Copy, Debug, PartialEq, Eq, Hash)]
 pub enum ScriptFault {
     /// No call has its first word as a name and takes as many words.
     Call,
@@ -88,6 +89,8 @@ impl fmt::Display for ScriptFault {
     }
 }
 
+impl Error for ScriptFault {}
+
 /// The step that a line of a script asks for.
 pub fn parse_step(heap: Global, text: &str) -> Result<Step<'_>, ScriptFault> {
     let words: Vec<&str> = text.split_whitespace().collect(heap)?;
@@ -95,7 +98,7 @@ pub fn parse_step(heap: Global, text: &str) -> Result<Step<'_>, ScriptFault> {
         [] => Ok(Step::Nothing),
         ["case", name] => Ok(Step::Case(name)),
         [first, ..] if first.starts_with('#') => Ok(Step::Nothing),
-        [name, rest @ ..] => Ok(Step::Call(parse_call(heap, name, rest)?)),
+        [name, rest @ ..] => Ok(Step::Call(name, parse_call(heap, name, rest)?)),
     }
 }
 
@@ -114,24 +117,5 @@ fn parse_call(heap: Global, name: &str, words: &[&str]) -> Result<Call, ScriptFa
         ("line_eq", [a, b]) => Ok(Call::LineEq(parse_line(heap, a)?, parse_line(heap, b)?)),
         ("u16_to_hex", [n]) => Ok(Call::U16ToHex(parse_number(n)?)),
         _ => Err(ScriptFault::Call),
-    }
-}
-
-impl Call {
-    /// The word that names it.
-    pub fn name(&self) -> &'static str {
-        match self {
-            Call::HexPrefix(_) => "hex_prefix",
-            Call::Streaming(_) => "streaming",
-            Call::AllAtOnce(_) => "all_at_once",
-            Call::ToDataLine(_) => "to_data_line",
-            Call::DecodeBand(_) => "decode_band",
-            Call::CheckError(_) => "check_error",
-            Call::AsText(_) => "as_text",
-            Call::AsError(_) => "as_error",
-            Call::AsBand(_, _) => "as_band",
-            Call::LineEq(_, _) => "line_eq",
-            Call::U16ToHex(_) => "u16_to_hex",
-        }
     }
 }
