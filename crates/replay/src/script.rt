@@ -104,18 +104,18 @@ pub fn parse_step(heap: Global, text: &str) -> Result<Step<'_>, ScriptFault> {
 
 /// The call of this name on these words.
 fn parse_call(heap: Global, name: &str, words: &[&str]) -> Result<Call, ScriptFault> {
-    match (name, words) {
-        ("hex_prefix", [b]) => Ok(Call::HexPrefix(parse_bytes(heap, b)?)),
-        ("streaming", [b]) => Ok(Call::Streaming(parse_bytes(heap, b)?)),
-        ("all_at_once", [b]) => Ok(Call::AllAtOnce(parse_bytes(heap, b)?)),
-        ("to_data_line", [b]) => Ok(Call::ToDataLine(parse_bytes(heap, b)?)),
-        ("decode_band", [l]) => Ok(Call::DecodeBand(parse_line(heap, l)?)),
-        ("check_error", [l]) => Ok(Call::CheckError(parse_line(heap, l)?)),
-        ("as_text", [l]) => Ok(Call::AsText(parse_line(heap, l)?)),
-        ("as_error", [l]) => Ok(Call::AsError(parse_line(heap, l)?)),
-        ("as_band", [l, k]) => Ok(Call::AsBand(parse_line(heap, l)?, parse_band(k)?)),
-        ("line_eq", [a, b]) => Ok(Call::LineEq(parse_line(heap, a)?, parse_line(heap, b)?)),
-        ("u16_to_hex", [n]) => Ok(Call::U16ToHex(parse_number(n)?)),
-        _ => Err(ScriptFault::Call),
-    }
+    Ok(match (name, words) {
+        ("hex_prefix", [b]) => Call::HexPrefix(parse_bytes(heap, b)?),
+        ("streaming", [b]) => Call::Streaming(parse_bytes(heap, b)?),
+        ("all_at_once", [b]) => Call::AllAtOnce(parse_bytes(heap, b)?),
+        ("to_data_line", [b]) => Call::ToDataLine(parse_bytes(heap, b)?),
+        ("decode_band", [l]) => Call::DecodeBand(parse_line(heap, l)?),
+        ("check_error", [l]) => Call::CheckError(parse_line(heap, l)?),
+        ("as_text", [l]) => Call::AsText(parse_line(heap, l)?),
+        ("as_error", [l]) => Call::AsError(parse_line(heap, l)?),
+        ("as_band", [l, k]) => Call::AsBand(parse_line(heap, l)?, parse_band(k)?),
+        ("line_eq", [a, b]) => Call::LineEq(parse_line(heap, a)?, parse_line(heap, b)?),
+        ("u16_to_hex", [n]) => Call::U16ToHex(parse_number(n)?),
+        _ => return Err(ScriptFault::Call),
+    })
 }

@@ -63,10 +63,8 @@ pub fn parse_number(word: &str) -> Result<u16, ScriptFault> {
 pub fn parse_bytes(heap: Global, word: &str) -> Result<Vec<u8>, ScriptFault>
     ensures { MatchResult result (λ v. term word.now ≡ Some v.items) (NoBytes (term word.now ≡ None)) }
 {
-    if word == "-" {
-        return Ok(Vec::new(heap));
-    }
     match word.as_bytes() {
+        b"-" => Ok(Vec::new(heap)),
         [b'h', digits @ ..] => parse_pairs(heap, digits),
         _ => Err(ScriptFault::Bytes),
     }
