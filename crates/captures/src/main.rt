@@ -11,7 +11,7 @@ use sources::trace::Trace;
 use std::alloc::{AllocError, Global};
 use std::{fs, io};
 use tally::tally_of;
-use units::{Units, in_pieces, interrupted, units_of};
+use units::{Taken, Units, in_pieces, interrupted, units_of};
 
 const NAMES: [&str; 11] = [
     "archive.resp",
@@ -54,21 +54,13 @@ fn main(rt: HostRuntime) -> io::Result<()> {
 fn show_units(rt: &HostRuntime, name: &str, bytes: &[u8]) -> io::Result<()> {
     let heap = rt.alloc();
     let mut memory = LineMemory::new(heap)?;
-    let whole = units_of(&mut Memory::new(bytes), &mut memory, bytes.len() + 1);
+    let whole = units_of(&mut Memory::new(bytes), &mut memory);
     let pieces = agreement(same_in_pieces(heap, bytes, &mut memory, whole)?);
     let steps = interrupted(heap, bytes.len())?;
-    let slow = units_of(
-        &mut Trace::new(bytes, steps.as_slice()),
-        &mut memory,
-        bytes.len() + 1,
-    );
+    let slow = units_of(&mut Trace::new(bytes, steps.as_slice()), &mut memory);
     let interrupted = agreement(slow == whole);
-    let Units {
-        lines,
-        bytes,
-        refusal,
-        ..
-    } = whole;
+    let Taken { lines, bytes, .. } = whole.taken;
+    let refusal = whole.refusal.number;
     println!(rt; "{name:<26}  {bytes:>6}  {lines:>5}  {refusal:>7}  {pieces:<16}  {interrupted}")
 }
 
@@ -79,15 +71,16 @@ fn same_in_pieces(
     memory: &mut LineMemory,
     whole: Units,
 ) -> Result<bool, AllocError> {
-    let mut same = true;
     for piece in 1..=LARGEST_PIECE {
         let steps = in_pieces(heap, bytes.len(), piece)?;
-        let mut source = Trace::new(bytes, steps.as_slice());
-        same = same && units_of(&mut source, memory, bytes.len().saturating_add(1)) == whole;
+        if units_of(&mut Trace::new(bytes, steps.as_slice()), memory) != whole {
+            return Ok(false);
+        }
     }
-    Ok(same)
+    Ok(true)
 }
 
+// Kept: two words for a `bool`; a type with a `Display` of its own is longer.
 fn agreement(same: bool) -> &'static str {
     if same { "the same" } else { "other" }
 }

@@ -3,12 +3,12 @@ ghost use Rattle.std.specs.Prelude.{◌≡◌, ◌+◌, ◌^◌, ◌<◌, drop};
 ghost use Rattle.lines.specs.Meaning.{line_of};
 ghost use Rattle.captures.specs.Tallies.{Decodes, Ends, total, with_line};
 
-use lines::PacketLineRef;
 use lines::decode::{DecodeFault, Stream, streaming};
+use lines::{PacketLineRef, Refuses};
 use std::fmt;
 
 /// How many lines of each kind there are.
-#[derive(Clone, Copy)]
+#[derive(Clone, Copy, Debug, Default, PartialEq, Eq, Hash)]
 pub struct Lines {
     /// Lines with a payload.
     pub payloads: usize,
@@ -23,7 +23,8 @@ pub struct Lines {
 }
 
 /// What stands behind the last line.
-#[derive(Clone, Copy)]
+// Kept: three cases, and a prefix that is refused is none of the two others.
+#[derive(Clone, Copy, Debug, PartialEq, Eq, Hash)]
 pub enum End {
     /// Nothing.
     Whole,
@@ -34,7 +35,7 @@ pub enum End {
 }
 
 /// The lines of a capture.
-#[derive(Clone, Copy)]
+#[derive(Clone, Copy, Debug, PartialEq, Eq, Hash)]
 pub struct Tally {
     /// How many lines there are.
     pub lines: Lines,
@@ -49,68 +50,47 @@ pub fn tally_of(bytes: &[u8]) -> Tally
     ensures decodes { Decodes bytes.now result.decoded result.lines }
     ensures ends { Ends (drop result.decoded bytes.now) result.end }
 {
-    let mut lines = Lines {
-        payloads: 0,
-        longest: 0,
-        flushes: 0,
-        delimiters: 0,
-        response_ends: 0,
-    };
-    let mut decoded = 0;
-    while decoded < bytes.len() {
-        let end = match streaming(&bytes[decoded..]) {
+    let mut lines = Lines::default();
+    let mut rest = bytes;
+    let end = 'lines: loop {
+        if rest.is_empty() {
+            break End::Whole;
+        }
+        match streaming(rest) {
             Ok(
                 Stream::Complete {
                     line,
                     bytes_consumed,
                 },
             ) => {
-                lines = counted(lines, &line, bytes_consumed);
-                decoded += bytes_consumed;
-                continue;
+                lines = lines.counted(&line, bytes_consumed);
+                rest = &rest[bytes_consumed..];
             }
-            Ok(Stream::Incomplete { bytes_needed }) => End::Cut(bytes_needed),
-            Err(fault) => End::Refused(fault),
-        };
-        return Tally {
-            lines,
-            decoded,
-            end,
-        };
-    }
+            Ok(Stream::Incomplete { bytes_needed }) => break End::Cut(bytes_needed),
+            Err(fault) => break End::Refused(fault),
+        }
+    };
     Tally {
         lines,
-        decoded,
-        end: End::Whole,
+        decoded: bytes.len() - rest.len(),
+        end,
     }
 }
 
-fn counted(lines: Lines, line: &PacketLineRef<'_>, length: usize) -> Lines
-    requires { total lines + 1 < 2 ^ 64 }
-    ensures { result ≡ with_line lines (line_of line.now) length }
-{
-    let longest = lines.longest.max(length);
-    match line {
-        PacketLineRef::Data(_) => Lines {
-            payloads: lines.payloads + 1,
-            longest,
-            ..lines
-        },
-        PacketLineRef::Flush => Lines {
-            flushes: lines.flushes + 1,
-            longest,
-            ..lines
-        },
-        PacketLineRef::Delimiter => Lines {
-            delimiters: lines.delimiters + 1,
-            longest,
-            ..lines
-        },
-        PacketLineRef::ResponseEnd => Lines {
-            response_ends: lines.response_ends + 1,
-            longest,
-            ..lines
-        },
+impl Lines {
+    /// These lines, and one more.
+    fn counted(mut self, line: &PacketLineRef<'_>, length: usize) -> Lines
+        requires { total self + 1 < 2 ^ 64 }
+        ensures { result ≡ with_line self (line_of line.now) length }
+    {
+        self.longest = self.longest.max(length);
+        match line {
+            PacketLineRef::Data(_) => self.payloads += 1,
+            PacketLineRef::Flush => self.flushes += 1,
+            PacketLineRef::Delimiter => self.delimiters += 1,
+            PacketLineRef::ResponseEnd => self.response_ends += 1,
+        }
+        self
     }
 }
 
@@ -131,10 +111,7 @@ impl fmt::Display for Tally {
         match self.end {
             End::Whole => f.write_str("to its end"),
             End::Cut(missing) => write!(f, "{decoded} bytes, and a line that lacks {missing}"),
-            End::Refused(fault) => {
-                let number = fault.number();
-                write!(f, "{decoded} bytes, then refusal {number}")
-            }
+            End::Refused(fault) => { write!(f, "{decoded} bytes, then refusal {}", fault.number()) }
         }
     }
 }

@@ -1,42 +1,72 @@
--- Pairs of hexadecimal digits, read from the front.
-use Rattle.std.proofs.Common.{◌≡◌, ℕ, ◌-◌, ◌≤◌, List, [], ◌∷◌, ◌++◌, length, get_or, take, drop, Some, None, Option, sym, refl, ap, ◌∙◌, append_assoc, append-nil, arith}
-use Rattle.std.proofs.lemmas.List.{take_rest}
+-- Pairs of hexadecimal digits, as the arrays that a slice of digits is cut into.
+use Rattle.std.proofs.Common.{◌≡◌, ℕ, zero, suc, ◌+◌, ◌-◌, ◌*◌, ◌/◌, ◌%◌, ◌<◌, ◌≤◌, List, [], ◌∷◌, ◌++◌, length, get_or, take, drop, drop-cons, add-one, Some, None, Err, Option, sym, refl, ap, ◌∙◌, append_assoc, append-nil, arith}
+use Rattle.std.proofs.lemmas.List.{take_rest, drop_all}
+use Rattle.std.specs.Option.{ok_or}
+use Rattle.std.specs.Simd.{first_chunks}
 use Rattle.hex_digits.specs.Digits.{digit, joined}
 use Rattle.replay.specs.Terms.{pairs, before, term}
+use Rattle.replay.specs.declared.script.ScriptFault.{ScriptFault}
+use Rattle.replay.specs.declared.script.ScriptFault.TheVariants.{Bytes}
+
+-- the byte that a pair of digits writes
+abbrev pub byte_of : List ℕ → Option ℕ
+byte_of pair = joined 16 (digit (get_or pair 0 0)) (digit (get_or pair 1 0))
+
+-- the bytes that pairs of digits write
+abbrev pub bytes_of : List (List ℕ) → Option (List ℕ)
+bytes_of [] = Some []
+bytes_of (pair ∷ others) = before (byte_of pair) (bytes_of others)
 
 -- xs, and then the bytes that there may be
 abbrev pub onto : List ℕ → Option (List ℕ) → Option (List ℕ)
 onto xs None = None
 onto xs (Some ys) = Some (xs ++ ys)
 
--- the byte that the first two digits of s write
-abbrev pub first_pair : List ℕ → Option ℕ
-first_pair s = joined 16 (digit (get_or s 0 0)) (digit (get_or s 1 0))
+before_none : (b : Option ℕ) → before b None ≡ None
+before_none None = refl
+before_none (Some b) = refl
 
-front : (s : List ℕ) → 2 ≤ length s → pairs s ≡ before (first_pair s) (pairs (take (length s - 2) (drop 2 s)))
-front [] h = absurd (omega arith)
-front (a ∷ []) h = absurd (omega arith)
-front (a ∷ b ∷ rest) h = rw take_rest
+-- an odd number of digits writes no bytes
+pub odd : (s : List ℕ) → 1 ≤ length s % 2 → pairs s ≡ None
+odd [] h = absurd (omega arith)
+odd (a ∷ []) h = refl
+odd (a ∷ b ∷ s) h = ap (before (joined 16 (digit a) (digit b))) (odd s (omega arith)) ∙ before_none (joined 16 (digit a) (digit b))
+
+chunks : (k : ℕ) (s : List ℕ) → length s ≡ k * 2 → pairs s ≡ bytes_of (first_chunks 2 k s)
+chunks zero [] e = refl
+chunks zero (a ∷ s) e = absurd (omega arith)
+chunks (suc k) [] e = absurd (omega arith)
+chunks (suc k) (a ∷ []) e = absurd (omega arith)
+chunks (suc k) (a ∷ b ∷ s) e = ap (before (joined 16 (digit a) (digit b))) (chunks k s (omega arith))
+
+nothing_onto : (o : Option (List ℕ)) → o ≡ onto [] o
+nothing_onto None = refl
+nothing_onto (Some ys) = refl
+
+-- an even number of digits writes what its pairs write, behind no bytes
+pub even : (s : List ℕ) (ps : List (List ℕ)) (xs : List ℕ) → length s % 2 < 1 → ps ≡ first_chunks 2 (length s / 2) s → xs ≡ [] → pairs s ≡ onto xs (bytes_of ps)
+even s ps xs h e n = rw (e, n) (chunks (length s / 2) s (omega arith) ∙ nothing_onto (bytes_of (first_chunks 2 (length s / 2) s)))
 
 push : (xs : List ℕ) (b : ℕ) (o : Option (List ℕ)) → onto xs (before (Some b) o) ≡ onto (xs ++ (b ∷ [])) o
 push xs b None = refl
 push xs b (Some ys) = ap Some (sym (append_assoc xs (b ∷ []) ys))
 
-pub one_more : (all xs s : List ℕ) (b : ℕ) → pairs all ≡ onto xs (pairs s) → 2 ≤ length s → Some b ≡ first_pair s →
-    pairs all ≡ onto (xs ++ (b ∷ [])) (pairs (take (length s - 2) (drop 2 s)))
-one_more all xs s b inv h e = inv ∙ ap (onto xs) (front s h) ∙ ap (λ o. onto xs (before o (pairs (take (length s - 2) (drop 2 s))))) (sym e) ∙ push xs b (pairs (take (length s - 2) (drop 2 s)))
+-- one more pair
+pub one_more : (xs : List ℕ) (ps : List (List ℕ)) (i b : ℕ) → i < length ps → Some b ≡ byte_of (get_or ps i []) → onto xs (bytes_of (drop i ps)) ≡ onto (xs ++ (b ∷ [])) (bytes_of (drop (i + 1) ps))
+one_more xs ps i b h e = rw (add-one, drop-cons ps i [], ← e) (push xs b (bytes_of (drop (suc i) ps)))
 
-pub no_pair : (all xs s : List ℕ) → pairs all ≡ onto xs (pairs s) → 2 ≤ length s → None ≡ first_pair s → pairs all ≡ None
-no_pair all xs s inv h e = inv ∙ ap (onto xs) (front s h) ∙ ap (λ o. onto xs (before o (pairs (take (length s - 2) (drop 2 s))))) (sym e)
+-- a pair that writes no byte
+pub no_pair : (xs : List ℕ) (ps : List (List ℕ)) (i : ℕ) → i < length ps → None ≡ byte_of (get_or ps i []) → onto xs (bytes_of (drop i ps)) ≡ None
+no_pair xs ps i h e = rw (drop-cons ps i [], ← e)
 
-pub no_more : (all xs s : List ℕ) → pairs all ≡ onto xs (pairs s) → length s ≡ 0 → pairs all ≡ Some xs
-no_more all xs [] inv h = inv ∙ ap Some (append-nil xs)
-no_more all xs (a ∷ s) inv h = absurd (omega arith)
+-- only where there is no byte is it refused, and then as bytes
+pub no_byte : (b : Option ℕ) (e : ScriptFault) → ok_or b Bytes ≡ Err e → (b ≡ None) × (e ≡ Bytes)
+no_byte None e h = (refl, cc)
+no_byte (Some b) e h = (cc, cc)
 
-pub one_left : (all xs s : List ℕ) → pairs all ≡ onto xs (pairs s) → length s ≡ 1 → pairs all ≡ None
-one_left all xs [] inv h = absurd (omega arith)
-one_left all xs (a ∷ []) inv h = inv
-one_left all xs (a ∷ b ∷ s) inv h = absurd (omega arith)
+-- behind the last pair
+pub no_more : (xs : List ℕ) (ps : List (List ℕ)) (i : ℕ) → length ps ≤ i → onto xs (bytes_of (drop i ps)) ≡ Some xs
+no_more xs ps i h = rw drop_all (ap Some (append-nil xs))
 
 pub pairs_behind : (w : List ℕ) → 1 ≤ length w → get_or w 0 0 ≡ 104 → term w ≡ pairs (take (length w - 1) (drop 1 w))
 pairs_behind [] h e = absurd (omega arith)

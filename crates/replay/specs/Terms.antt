@@ -2,10 +2,11 @@
 use Rattle.std.specs.Prelude.{◌≡◌, ℕ, cond, ◌&&◌, List, [], ◌∷◌, length, Some, None, vec_items, codes, Option, ◌==◌}
 use Rattle.hex_digits.specs.Digits.{digit, joined}
 use Rattle.lines.specs.Format.{Line, payload, flush, delimiter, response_end}
+use Rattle.lines.specs.Meaning.{line_of}
 use Rattle.replay.specs.declared.script.ScriptFault.{ScriptFault}
 use Rattle.replay.specs.declared.script.ScriptFault.TheVariants.{Call, Bytes, Band, Number, Memory}
 use Rattle.replay.specs.declared.terms.ScriptLine.{ScriptLine}
-use Rattle.replay.specs.declared.terms.ScriptLine.TheVariants.{Data, Flush, Delimiter, ResponseEnd}
+use Rattle.replay.specs.declared.terms.ScriptLine.TheVariants.{Payload, Named}
 
 abbrev pub before : Option ℕ → Option (List ℕ) → Option (List ℕ)
 before (Some b) (Some bs) = Some (b ∷ bs)
@@ -40,7 +41,5 @@ NoBytes P Memory = Unit {0}
 
 -- the line that a script writes out
 abbrev pub written_line : ScriptLine → Line
-written_line (Data d) = payload (vec_items d)
-written_line Flush = flush
-written_line Delimiter = delimiter
-written_line ResponseEnd = response_end
+written_line (Payload d) = payload (vec_items d)
+written_line (Named l) = line_of l

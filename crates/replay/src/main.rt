@@ -7,13 +7,13 @@ mod script;
 mod terms;
 
 use crate::run::answer_to;
-use crate::script::{Call, ScriptFault, Step, parse_step};
+use crate::script::{ScriptFault, Step, parse_step};
 use std::io::{BufRead, BufReader, BufWriter, Write};
 use std::process::ExitCode;
 use std::{fmt, io};
 
 /// Why a script was not replayed to its end.
-#[derive(Drop)]
+#[derive(Debug, Drop)]
 enum Failure {
     /// This line of it cannot be read.
     Input(u64, io::Error),
@@ -54,31 +54,18 @@ fn main(rt: HostRuntime) -> ExitCode {
 fn replay(rt: &HostRuntime) -> Result<(), Failure> {
     let heap = rt.alloc();
     let mut out = BufWriter::new(heap, rt.stdout())?;
-    let mut number = 0u64;
     let script = BufReader::new(heap, rt.stdin()).map_err(|e| Failure::Input(1, e))?;
-    for line in script.lines(heap) {
-        // No input is so long that the number stays behind.
-        number = number.saturating_add(1);
-        let line = match line {
-            Ok(line) => line,
-            Err(e) => return Err(Failure::Input(number, e)),
-        };
-        match parse_step(heap, line.as_str()) {
-            Ok(Step::Nothing) => {}
-            Ok(Step::Case(name)) => writeln!(out, "case {name}")?,
-            Ok(Step::Call(call)) => print_answer(&mut out, number, &call)?,
-            Err(fault) => return Err(Failure::Script(number, fault)),
+    for (number, line) in (1u64..).zip(script.lines(heap)) {
+        let line = line.map_err(|e| Failure::Input(number, e))?;
+        match parse_step(heap, line.as_str()).map_err(|fault| Failure::Script(number, fault))? {
+            Step::Nothing => {}
+            Step::Case(name) => writeln!(out, "case {name}")?,
+            Step::Call(name, call) => match answer_to(&call) {
+                Ok(answer) => writeln!(out, "{number} {name} -> {answer}")?,
+                Err(refusal) => writeln!(out, "{number} {name} -> no {refusal}")?,
+            },
         }
     }
     out.flush()?;
     Ok(())
-}
-
-/// Prints the answer to the call on line `number`.
-fn print_answer<W: Write>(out: &mut W, number: u64, call: &Call) -> io::Result<()> {
-    let name = call.name();
-    match answer_to(call) {
-        Ok(answer) => writeln!(out, "{number} {name} -> {answer}"),
-        Err(refusal) => writeln!(out, "{number} {name} -> {refusal}"),
-    }
 }

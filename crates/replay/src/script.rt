@@ -5,21 +5,22 @@ ghost use Rattle.replay.specs.declared.script.ScriptFault.TheVariants.{Memory};
 use crate::terms::{ScriptLine, parse_band, parse_bytes, parse_line, parse_number};
 use lines::Channel;
 use std::alloc::{AllocError, AllocFailed, Global};
+use std::error::Error;
 use std::fmt;
 
 /// What a line of a script asks for.
-#[derive(Drop)]
+#[derive(Debug, Drop)]
 pub enum Step<'a> {
     /// Nothing: it is empty or a comment.
     Nothing,
     /// The beginning of the case of this name.
     Case(&'a str),
-    /// A call.
-    Call(Call),
+    /// A call, behind the word that names it.
+    Call(&'a str, Call),
 }
 
 /// A call on packet lines, by the name of its function.
-#[derive(Drop)]
+#[derive(Debug, Drop)]
 pub enum Call {
     /// `hex_prefix BYTES`
     HexPrefix(Vec<u8>),
@@ -46,7 +47,7 @@ pub enum Call {
 }
 
 /// Why a line is no step of a script.
-#[derive(Clone, Copy)]
+#[derive(Clone, Copy, Debug, PartialEq, Eq, Hash)]
 pub enum ScriptFault {
     /// No call has its first word as a name and takes as many words.
     Call,
@@ -88,6 +89,8 @@ impl fmt::Display for ScriptFault {
     }
 }
 
+impl Error for ScriptFault {}
+
 /// The step that a line of a script asks for.
 pub fn parse_step(heap: Global, text: &str) -> Result<Step<'_>, ScriptFault> {
     let words: Vec<&str> = text.split_whitespace().collect(heap)?;
@@ -95,43 +98,24 @@ pub fn parse_step(heap: Global, text: &str) -> Result<Step<'_>, ScriptFault> {
         [] => Ok(Step::Nothing),
         ["case", name] => Ok(Step::Case(name)),
         [first, ..] if first.starts_with('#') => Ok(Step::Nothing),
-        [name, rest @ ..] => Ok(Step::Call(parse_call(heap, name, rest)?)),
+        [name, rest @ ..] => Ok(Step::Call(name, parse_call(heap, name, rest)?)),
     }
 }
 
 /// The call of this name on these words.
 fn parse_call(heap: Global, name: &str, words: &[&str]) -> Result<Call, ScriptFault> {
-    match (name, words) {
-        ("hex_prefix", [b]) => Ok(Call::HexPrefix(parse_bytes(heap, b)?)),
-        ("streaming", [b]) => Ok(Call::Streaming(parse_bytes(heap, b)?)),
-        ("all_at_once", [b]) => Ok(Call::AllAtOnce(parse_bytes(heap, b)?)),
-        ("to_data_line", [b]) => Ok(Call::ToDataLine(parse_bytes(heap, b)?)),
-        ("decode_band", [l]) => Ok(Call::DecodeBand(parse_line(heap, l)?)),
-        ("check_error", [l]) => Ok(Call::CheckError(parse_line(heap, l)?)),
-        ("as_text", [l]) => Ok(Call::AsText(parse_line(heap, l)?)),
-        ("as_error", [l]) => Ok(Call::AsError(parse_line(heap, l)?)),
-        ("as_band", [l, k]) => Ok(Call::AsBand(parse_line(heap, l)?, parse_band(k)?)),
-        ("line_eq", [a, b]) => Ok(Call::LineEq(parse_line(heap, a)?, parse_line(heap, b)?)),
-        ("u16_to_hex", [n]) => Ok(Call::U16ToHex(parse_number(n)?)),
-        _ => Err(ScriptFault::Call),
-    }
-}
-
-impl Call {
-    /// The word that names it.
-    pub fn name(&self) -> &'static str {
-        match self {
-            Call::HexPrefix(_) => "hex_prefix",
-            Call::Streaming(_) => "streaming",
-            Call::AllAtOnce(_) => "all_at_once",
-            Call::ToDataLine(_) => "to_data_line",
-            Call::DecodeBand(_) => "decode_band",
-            Call::CheckError(_) => "check_error",
-            Call::AsText(_) => "as_text",
-            Call::AsError(_) => "as_error",
-            Call::AsBand(_, _) => "as_band",
-            Call::LineEq(_, _) => "line_eq",
-            Call::U16ToHex(_) => "u16_to_hex",
-        }
-    }
+    Ok(match (name, words) {
+        ("hex_prefix", [b]) => Call::HexPrefix(parse_bytes(heap, b)?),
+        ("streaming", [b]) => Call::Streaming(parse_bytes(heap, b)?),
+        ("all_at_once", [b]) => Call::AllAtOnce(parse_bytes(heap, b)?),
+        ("to_data_line", [b]) => Call::ToDataLine(parse_bytes(heap, b)?),
+        ("decode_band", [l]) => Call::DecodeBand(parse_line(heap, l)?),
+        ("check_error", [l]) => Call::CheckError(parse_line(heap, l)?),
+        ("as_text", [l]) => Call::AsText(parse_line(heap, l)?),
+        ("as_error", [l]) => Call::AsError(parse_line(heap, l)?),
+        ("as_band", [l, k]) => Call::AsBand(parse_line(heap, l)?, parse_band(k)?),
+        ("line_eq", [a, b]) => Call::LineEq(parse_line(heap, a)?, parse_line(heap, b)?),
+        ("u16_to_hex", [n]) => Call::U16ToHex(parse_number(n)?),
+        _ => return Err(ScriptFault::Call),
+    })
 }

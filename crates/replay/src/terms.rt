@@ -9,16 +9,12 @@ use lines::{Channel, PacketLineRef};
 use std::alloc::Global;
 
 /// A line that a script writes out.
-#[derive(Drop)]
+#[derive(Debug, Drop)]
 pub enum ScriptLine {
-    /// A payload.
-    Data(Vec<u8>),
-    /// `flush`
-    Flush,
-    /// `delim`
-    Delimiter,
-    /// `end`
-    ResponseEnd,
+    /// The bytes of a payload.
+    Payload(Vec<u8>),
+    /// A line that has a name.
+    Named(PacketLineRef<'static>),
 }
 
 impl ScriptLine {
@@ -27,10 +23,8 @@ impl ScriptLine {
         ensures { line_of result ≡ written_line self.now }
     {
         match self {
-            ScriptLine::Data(d) => PacketLineRef::Data(d.as_slice()),
-            ScriptLine::Flush => PacketLineRef::Flush,
-            ScriptLine::Delimiter => PacketLineRef::Delimiter,
-            ScriptLine::ResponseEnd => PacketLineRef::ResponseEnd,
+            ScriptLine::Payload(d) => PacketLineRef::Data(d.as_slice()),
+            ScriptLine::Named(line) => *line,
         }
     }
 }
@@ -40,10 +34,10 @@ pub fn parse_line(heap: Global, word: &str) -> Result<ScriptLine, ScriptFault>
     ensures { IfOk result (λ l. IsLine word.now (written_line l)) }
 {
     match word {
-        "flush" => Ok(ScriptLine::Flush),
-        "delim" => Ok(ScriptLine::Delimiter),
-        "end" => Ok(ScriptLine::ResponseEnd),
-        _ => Ok(ScriptLine::Data(parse_bytes(heap, word)?)),
+        "flush" => Ok(ScriptLine::Named(PacketLineRef::Flush)),
+        "delim" => Ok(ScriptLine::Named(PacketLineRef::Delimiter)),
+        "end" => Ok(ScriptLine::Named(PacketLineRef::ResponseEnd)),
+        _ => Ok(ScriptLine::Payload(parse_bytes(heap, word)?)),
     }
 }
 
@@ -51,6 +45,7 @@ pub fn parse_line(heap: Global, word: &str) -> Result<ScriptLine, ScriptFault>
 pub fn parse_band(word: &str) -> Result<Channel, ScriptFault>
     ensures { IfOk result (λ k. word.now ≡ (48 + channel_of k) ∷ []) }
 {
+    // Kept: a `u8` parsed and then `try_from` would take `01` and `+1` too.
     match word {
         "1" => Ok(Channel::Data),
         "2" => Ok(Channel::Progress),
@@ -61,20 +56,15 @@ pub fn parse_band(word: &str) -> Result<Channel, ScriptFault>
 
 /// The number of a word.
 pub fn parse_number(word: &str) -> Result<u16, ScriptFault> {
-    match word.parse::<u16>() {
-        Ok(n) => Ok(n),
-        Err(_) => Err(ScriptFault::Number),
-    }
+    word.parse::<u16>().map_err(|_| ScriptFault::Number)
 }
 
 /// The bytes of a word: none for `-`, or those that the digits behind `h` write.
 pub fn parse_bytes(heap: Global, word: &str) -> Result<Vec<u8>, ScriptFault>
     ensures { MatchResult result (λ v. term word.now ≡ Some v.items) (NoBytes (term word.now ≡ None)) }
 {
-    if word == "-" {
-        return Ok(Vec::new(heap));
-    }
     match word.as_bytes() {
+        b"-" => Ok(Vec::new(heap)),
         [b'h', digits @ ..] => parse_pairs(heap, digits),
         _ => Err(ScriptFault::Bytes),
     }
@@ -84,18 +74,12 @@ pub fn parse_bytes(heap: Global, word: &str) -> Result<Vec<u8>, ScriptFault>
 fn parse_pairs(heap: Global, digits: &[u8]) -> Result<Vec<u8>, ScriptFault>
     ensures { MatchResult result (λ v. pairs digits.now ≡ Some v.items) (NoBytes (pairs digits.now ≡ None)) }
 {
+    let (pairs, []) = digits.as_chunks::<2>() else {
+        return Err(ScriptFault::Bytes);
+    };
     let mut bytes = Vec::new(heap);
-    let mut rest = digits;
-    while let [high, low, others @ ..] = rest {
-        let Some(byte) = hex_byte(*high, *low) else {
-            return Err(ScriptFault::Bytes);
-        };
-        bytes.push(byte)?;
-        rest = others;
+    for [high, low] in pairs {
+        bytes.push(hex_byte(*high, *low).ok_or(ScriptFault::Bytes)?)?;
     }
-    if rest.is_empty() {
-        Ok(bytes)
-    } else {
-        Err(ScriptFault::Bytes)
-    }
+    Ok(bytes)
 }

@@ -1,32 +1,23 @@
-use Rattle.std.proofs.Common.{◌≡◌, ◌≤◌, Ok, refl, arith, length-drop, rules}
-use Rattle.lines.specs.Decoding.{complete, incomplete, streamed}
-use Rattle.lines.specs.Meaning.{line_of}
-use Rattle.captures.specs.Tallies.{begins, goes_on}
-use Rattle.captures.proofs.Totals.{unread, rest_streamed, within}
+use Rattle.std.proofs.Common.{sym, refl, rules}
+use Rattle.captures.specs.Tallies.{Ends}
+use Rattle.captures.proofs.Totals.{begun, walks, behind}
 use Rattle.captures.proofs.tally.tally_of.Goals as goal
+use Rattle.captures.proofs.tally.tally_of.Goals.{then-is_empty, else-is_empty+in-Ok-Incomplete, else-is_empty+in-Err}
 
-pub loop-decoded-init : goal.loop-decoded-init
-loop-decoded-init c = (search rules, search rules, begins _ _ refl)
+pub lines-init : goal.lines-init
+lines-init c = begun _ _ (search rules)
 
-pub loop-decoded-preserved : goal.loop-decoded-preserved
-loop-decoded-preserved c =
-    let s : Ok (complete (line_of c.in-Ok-Complete.line) c.in-Ok-Complete.bytes_consumed) ≡ streamed (unread c.args.bytes.now c.loop-decoded.decoded) = search rules in
-    let four : 4 ≤ c.in-Ok-Complete.bytes_consumed = search rules in (
-      search rules,
-      within c.loop-decoded.decoded c.in-Ok-Complete.bytes_consumed c.counted-lines.result c.loop-decoded.lines _ _ c.counted-lines.ensures c.loop-decoded.invariant.1 four,
-      goes_on _ _ _ _ c.loop-decoded.lines _ c.loop-decoded.invariant.2 (rest_streamed c.args.bytes.now c.loop-decoded.decoded _ s) c.counted-lines.ensures,
-    )
+pub lines-preserved : goal.lines-preserved
+lines-preserved c =
+    let ensured = rw c.in-Ok-Complete.field-0-is at c.in-Ok-Complete.ensures in
+    walks c.args.bytes.now c.lines.rest.now _ c.lines.lines _ _ _ c.lines.invariant (sym ensured.is) ensured.within.0 ensured.within.1 c.counted-lines.ensures refl
 
-pub returns-in-Ok-Incomplete : goal.returns-in-Ok-Incomplete
-returns-in-Ok-Incomplete c =
-    let s : Ok (incomplete c.in-Ok-Incomplete.bytes_needed) ≡ streamed (unread c.args.bytes.now c.loop-decoded.decoded) = search rules in
-    record {
-      decodes = c.loop-decoded.invariant.2;
-      ends = (simp length-drop (omega arith), rest_streamed c.args.bytes.now c.loop-decoded.decoded _ s);
-    }
-
-pub returns-in-Err : goal.returns-in-Err
-returns-in-Err c = record { decodes = c.loop-decoded.invariant.2; ends = rest_streamed c.args.bytes.now c.loop-decoded.decoded _ c.in-Err.ensures.is }
-
-pub returns : goal.returns
-returns c = record { decodes = c.loop-decoded.invariant.2; ends = simp length-drop (omega arith) }
+pub returns-clause-ends : goal.returns-clause-ends
+returns-clause-ends c =
+    let ends : Ends c.lines.rest.now c.if-is_empty.end =
+    elim c.if-is_empty.branch [
+      | then-is_empty w ↦ rw w.end-is (search rules)
+      | else-is_empty+in-Ok-Incomplete w ↦ rw w.end-is (search rules, sym (rw w.in-Ok-Incomplete.field-0-is at w.in-Ok-Incomplete.ensures.is))
+      | else-is_empty+in-Err w ↦ rw w.end-is (search rules)
+    ] in
+    behind c.args.bytes.now c.lines.rest.now c.lines.lines c.if-is_empty.end c.lines.invariant ends

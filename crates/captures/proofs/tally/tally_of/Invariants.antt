@@ -1,9 +1,9 @@
-use Rattle.std.proofs.Common.{◌-◌, ◌≤◌, length}
-use Rattle.captures.specs.Tallies.{Decodes, total}
+use Rattle.std.proofs.Common.{length}
+use Rattle.captures.proofs.Totals.{Walked}
 use Rattle.captures.proofs.tally.tally_of.Given as goal
 
-abbrev pub invariant-loop-decoded : goal.invariant-loop-decoded
-invariant-loop-decoded l = (l.decoded ≤ length l.bytes) × (total l.lines ≤ l.decoded) × Decodes l.bytes l.decoded l.lines
+abbrev pub invariant-lines : goal.invariant-lines
+invariant-lines l = Walked l.bytes l.rest l.lines
 
-abbrev pub decreases-loop-decoded : goal.decreases-loop-decoded
-decreases-loop-decoded l = length l.bytes - l.decoded
+abbrev pub decreases-lines : goal.decreases-lines
+decreases-lines l = length l.rest
