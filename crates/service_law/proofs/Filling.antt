@@ -1,5 +1,5 @@
 -- What a fill does to units and to its handler; and that the law lets it do nothing else.
-use Rattle.std.proofs.Common.{◌≡◌, Bool, true, List, [], ◌++◌, Option, Result, refl, ◌∙◌, ap₂, append_assoc, arith}
+use Rattle.std.proofs.Common.{◌≡◌, ℕ, Bool, true, List, [], ◌++◌, Option, Result, refl, ◌∙◌, append_assoc, arith}
 use Rattle.std.proofs.lemmas.Grind.{flat_map-append, fold-append}
 use Rattle.lines.specs.Refusals.{Refusal}
 use Rattle.lines.specs.Format.{Line}
@@ -15,17 +15,17 @@ use Rattle.service_law.proofs.Chains.{chain_append, chain_behind}
 use Rattle.service_law.proofs.Units.{Course, course_behind, May, Lives}
 use Rattle.service_law.proofs.Reading.{course, read_place, read_marks, read_lives, read_gives, read_tells, read_by, ShowsHeld, read_shows, read_exact}
 
--- what lines that were read, the last of them sent to a place, did to the reader, windows and the handler
-pub record Reads {H : Type 0} (rule : Rule H) (r : Reader) (items : List Item) (h : H) (us : List UnitMark) (place : Place) (r' : Reader) (rest : List Item) (h' : H) : Type 0 where
+-- what lines that were read did to the reader and the handler, d being the bytes that they gave to windows
+pub record Reads {H : Type 0} (rule : Rule H) (r : Reader) (items : List Item) (h : H) (us : List UnitMark) (d : List ℕ) (r' : Reader) (rest : List Item) (h' : H) : Type 0 where
   pub lives : Lives (course r items) us (course r' rest)
-  pub gives : given_to_windows us ≡ place_bytes place
+  pub gives : given_to_windows us ≡ d
   pub tells : told rule h us ≡ h'
   pub keeps_stops : r'.stops ≡ r.stops
   pub keeps_flag : r'.flag ≡ r.flag
   pub shows_held : ShowsHeld r'
 
 module _ {H : Type 0} (rule : Rule H) (way : Way) where
-  one : (r : Reader) (items : List Item) (h : H) → Reads rule r items h (read_marks way r items) (read_place way r items) (read_after r items) (left_in r.phase items) (moved rule h (read_place way r items))
+  one : (r : Reader) (items : List Item) (h : H) → Reads rule r items h (read_marks way r items) (place_bytes (read_place way r items)) (read_after r items) (left_in r.phase items) (moved rule h (read_place way r items))
   one r items h =
       record {
         lives = read_lives way r items;
@@ -38,18 +38,18 @@ module _ {H : Type 0} (rule : Rule H) (way : Way) where
 
   -- one reading, as a read_line relates reader and source
   one_by : {r r' : Reader} {items rest : List Item} {h h' : H} {place : Place} {a : Option (Result Line Refusal)} → place ≡ read_place way r items → ReadLine r items a r' rest → h' ≡ moved rule h place →
-      Reads rule r items h (read_marks way r items) place r' rest h'
+      Reads rule r items h (read_marks way r items) (place_bytes place) r' rest h'
   one_by {r} {items = items} {h = h} e c f = rw (c.becomes, c.leaves, f, e) (one r items h)
 
   gives_none : (h : H) (place : Place) → passes rule h place ≡ true → place_bytes place ≡ []
   gives_none h place e = grind arith
 
-  both : {r r' r'' : Reader} {items rest rest' : List Item} {h h' h'' : H} {us vs : List UnitMark} {place last : Place} →
-      passes rule h place ≡ true → Reads rule r items h us place r' rest h' → Reads rule r' rest h' vs last r'' rest' h'' → Reads rule r items h (us ++ vs) last r'' rest' h''
-  both {r} {r'} {r''} {items} {rest} {rest'} {h} {us = us} {vs} {place} e p q =
+  both : {r r' r'' : Reader} {items rest rest' : List Item} {h h' h'' : H} {us vs : List UnitMark} {d : List ℕ} →
+      Reads rule r items h us [] r' rest h' → Reads rule r' rest h' vs d r'' rest' h'' → Reads rule r items h (us ++ vs) d r'' rest' h''
+  both {r} {r'} {r''} {items} {rest} {rest'} {us = us} {vs = vs} p q =
       record {
         lives = chain_append May course_behind us vs (course r items) (course r' rest) (course r'' rest') p.lives q.lives;
-        gives = rw flat_map-append (ap₂ (λ x y. x ++ y) (p.gives ∙ gives_none h place e) q.gives);
+        gives = rw (flat_map-append, p.gives) q.gives;
         tells = rw (fold-append, p.tells) q.tells;
         keeps_stops = q.keeps_stops ∙ p.keeps_stops;
         keeps_flag = q.keeps_flag ∙ p.keeps_flag;
@@ -58,19 +58,19 @@ module _ {H : Type 0} (rule : Rule H) (way : Way) where
 
   -- a fill by the rules goes as the law says
   pub fill_reads : {r r' : Reader} {items rest : List Item} {h h' : H} {place : Place} → Fills rule way r items h place r' rest h' →
-      (us : List UnitMark) × Reads rule r items h us place r' rest h' × FillBy rule r.stops r.flag way h us place
+      (us : List UnitMark) × Reads rule r items h us (place_bytes place) r' rest h' × FillBy rule r.stops r.flag way h us place
   fill_reads {r} {items = items} (sessions.Fills.ends e p c f) = (read_marks way r items, one_by e c f, law.FillBy.ends (rw e (read_by way r items)) p)
-  fill_reads {r} {items = items} (sessions.Fills.goes_on e p c f more) =
+  fill_reads {r} {items = items} {h = h} (sessions.Fills.goes_on {place = place} e p c f more) =
       let k = fill_reads more in
       let o = one_by e c f in (
         read_marks way r items ++ k.0,
-        both p o k.1,
+        both (rw (gives_none h place p) at o) k.1,
         law.FillBy.goes_on {us = read_marks way r items} (rw e (read_by way r items)) p (rw (← o.keeps_stops, ← o.keeps_flag, ← f) k.2),
       )
 
   -- by the law a fill goes in one way only, and that is the rules'
   abbrev pub FilledSo : Reader → List Item → H → List UnitMark → Place → Type 0
-  FilledSo r items h us place = (r' : Reader) × (rest : List Item) × (h' : H) × Fills rule way r items h place r' rest h' × Reads rule r items h us place r' rest h'
+  FilledSo r items h us place = (r' : Reader) × (rest : List Item) × (h' : H) × Fills rule way r items h place r' rest h' × Reads rule r items h us (place_bytes place) r' rest h'
 
   pub fill_exact : (s : Stops) (flag : Bool) {h : H} {us : List UnitMark} {place : Place} (r : Reader) (items : List Item) (vs : List UnitMark) (x : Course) → r.stops ≡ s → r.flag ≡ flag →
       FillBy rule s flag way h us place → Lives (course r items) (us ++ vs) x → FilledSo r items h us place
@@ -85,6 +85,6 @@ module _ {H : Type 0} (rule : Rule H) (way : Way) where
   fill_exact s flag {h} r items vs x es ef (law.FillBy.goes_on {us = us} {vs = ws} {place = place} by e more) g =
       let g' : Lives (course r items) (us ++ (ws ++ vs)) x = rw append_assoc at g in
       let k = read_exact way r items us (ws ++ vs) place x (rw (es, ef) by) g' in
-      let o : Reads rule r items h us place (read_after r items) (left_in r.phase items) (moved rule h place) = rw (k.0, k.1) (one r items h) in
+      let o : Reads rule r items h us (place_bytes place) (read_after r items) (left_in r.phase items) (moved rule h place) = rw (k.0, k.1) (one r items h) in
       let m = fill_exact s flag (read_after r items) (left_in r.phase items) vs x es ef more (chain_behind May course_behind us (ws ++ vs) (course r items) (course (read_after r items) (left_in r.phase items)) x o.lives g') in
-      (m.0, m.1, m.2, sessions.Fills.goes_on k.1 e (record { answers = refl; becomes = refl; leaves = refl }) refl m.3, both e o m.4)
+      (m.0, m.1, m.2, sessions.Fills.goes_on k.1 e (record { answers = refl; becomes = refl; leaves = refl }) refl m.3, both (rw (gives_none h place e) at o) m.4)

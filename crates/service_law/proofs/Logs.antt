@@ -5,7 +5,7 @@ use Rattle.rules.specs.Handlers.{Rule}
 use Rattle.rules.specs.Sessions.{Filling, no_window}
 use Rattle.service_law.specs.Calls.{Call, plain, handed, Answer, State, new_service, Step, Runs}
 use Rattle.service_law.specs.Calls as calls
-use Rattle.service_law.specs.Marks.{UnitMark, bytes_given, given_to_windows, WindowMark}
+use Rattle.service_law.specs.Marks.{UnitMark, bytes_given, WindowMark}
 use Rattle.service_law.specs.Law.{Entry, said, unit_marks, window_marks, terms_behind, terms_of, Lawful, AllLawful, Law, LawHolds}
 use Rattle.service_law.specs.Law as law
 use Rattle.service_law.proofs.Chains.{chain_append}
@@ -14,24 +14,21 @@ use Rattle.service_law.proofs.Units as units
 use Rattle.service_law.proofs.Windows.{bytes_opened, opened_bytes, windows_go, in_order}
 use Rattle.service_law.proofs.Windows as windows
 use Rattle.service_law.proofs.Reading.{course}
-use Rattle.service_law.proofs.Steps.{Sound, Accounts, plain_units, plain_windows, plain_accounts, plain_lawful}
+use Rattle.service_law.proofs.Steps.{Sound, Does, Accounts, plain_units, plain_windows, plain_accounts, plain_lawful}
 use Rattle.service_law.proofs.Openings.{unmoved, filled_accounts}
 
--- what a list of calls does, from one state to another
-pub record Logged {H : Type 0} (rule : Rule H) (a : State H) (log : List Entry) (b : State H) : Type 0 where
-  pub lives : units.Lives (course a.session.reader a.left) (unit_marks log) (course b.session.reader b.left)
-  pub goes : windows.Lives a.session.window (window_marks log) b.session.window
-  pub opens : given_to_windows (unit_marks log) ≡ opened_bytes (window_marks log)
-  pub terms : terms_of b ≡ terms_behind rule (terms_of a) log
+-- what a list of calls does
+abbrev Logged : {H : Type 0} → Rule H → State H → List Entry → State H → Type 0
+Logged rule a log b = Does a (unit_marks log) (window_marks log) (terms_behind rule (terms_of a) log) b
 
 module _ {H : Type 0} (rule : Rule H) where
-  pub logged_more : {a b c : State H} {e : Entry} {log : List Entry} → Accounts rule a e.call e.units e.windows b → Logged rule b log c → Logged rule a (e ∷ log) c
-  logged_more {a} {b} {c} {e} {log} p q =
+  logged_more : (a b c : State H) (e : Entry) (log : List Entry) → Accounts rule a e.call e.units e.windows b → Logged rule b log c → Logged rule a (e ∷ log) c
+  logged_more a b c e log p q =
       record {
-        lives = chain_append units.May units.course_behind e.units (unit_marks log) (course a.session.reader a.left) (course b.session.reader b.left) (course c.session.reader c.left) p.lives q.lives;
-        goes = chain_append windows.May windows.window_behind e.windows (window_marks log) a.session.window b.session.window c.session.window p.goes q.goes;
-        opens = rw (flat_map-append bytes_given e.units (unit_marks log), flat_map-append bytes_opened e.windows (window_marks log), p.opens, q.opens) refl;
-        terms = q.terms ∙ ap (λ g. terms_behind rule g log) p.terms;
+        lives = chain_append units.May units.course_behind e.units (unit_marks log) (course a.session.reader a.left) (course b.session.reader b.left) (course c.session.reader c.left) p.0.lives q.lives;
+        goes = chain_append windows.May windows.window_behind e.windows (window_marks log) a.session.window b.session.window c.session.window p.0.goes q.goes;
+        opens = rw (flat_map-append bytes_given e.units (unit_marks log), flat_map-append bytes_opened e.windows (window_marks log), p.0.opens, q.opens) refl;
+        terms = q.terms ∙ ap (λ g. terms_behind rule g log) p.0.terms;
       }
 
   -- one call by the rules
@@ -39,7 +36,7 @@ module _ {H : Type 0} (rule : Rule H) where
   Noted a call ans b = (us : List UnitMark) × (ws : List WindowMark) × Accounts rule a call us ws b × Lawful rule (terms_of a) call ans us ws × calls.May a.inside (calls.side call)
 
   unhanded : (a : State H) (k : ℕ) (c : Filling) → Sound a → Accounts rule a (handed k c) [] [] a
-  unhanded a k c q = record { lives = refl; goes = refl; opens = refl; terms = ap (λ hs. record (terms_of a) { handlers = hs }) (sym (unmoved k a.handlers)); sound = q }
+  unhanded a k c q = (record { lives = refl; goes = refl; opens = refl; terms = ap (λ hs. record (terms_of a) { handlers = hs }) (sym (unmoved k a.handlers)) }, q)
 
   noted : {a b : State H} {call : Call} {ans : Answer} → Sound a → Step rule a call ans b → Noted a call ans b
   noted {a} q (calls.Step.plainly {c = c} m e f) =
@@ -53,11 +50,11 @@ module _ {H : Type 0} (rule : Rule H) where
 
   run_noted : {a b : State H} {cs : List (Call × Answer)} → Sound a → Runs rule a cs b → RunNoted a cs b
   run_noted q calls.Runs.at_end = ([], refl, record { lives = refl; goes = refl; opens = refl; terms = refl }, tt)
-  run_noted q (calls.Runs.next {call = call} {ans = ans} s r) =
+  run_noted {a} {b} q (calls.Runs.next {b = c} {call = call} {ans = ans} s r) =
       let n = noted q s in
-      let m = run_noted n.2.sound r in
+      let m = run_noted n.2.1 r in
       let e : Entry = record { call = call; answer = ans; units = n.0; windows = n.1 } in
-      (e ∷ m.0, ap (λ x. (call, ans) ∷ x) m.1, logged_more {e = e} n.2 m.2, (n.4, n.3, rw (← n.2.terms) m.3))
+      (e ∷ m.0, ap (λ x. (call, ans) ∷ x) m.1, logged_more a c b e m.0 n.2 m.2, (n.4, n.3, rw (← n.2.0.terms) m.3))
 
   pub holds_of_every : LawHolds rule
   holds_of_every stops items hs cs b r =

@@ -1,5 +1,5 @@
 -- What the calls that fill do to units, windows and handlers; and that the law lets them do nothing else.
-use Rattle.std.proofs.Common.{◌≡◌, ℕ, zero, suc, ◌<◌, true, false, List, [], ◌∷◌, ◌++◌, length, Some, Ok, Err, Result, sym, refl, ap, ◌∙◌, append-nil, arith}
+use Rattle.std.proofs.Common.{◌≡◌, ℕ, zero, suc, ◌<◌, true, false, List, [], ◌∷◌, ◌++◌, length, Some, Ok, Err, Result, sym, refl, ap, append-nil, arith}
 use Rattle.std.specs.Prelude.{nat_lt}
 use Rattle.std.proofs.lemmas.List.{nil_from_length}
 use Rattle.std.proofs.lemmas.Grind.{flat_map-append}
@@ -11,7 +11,7 @@ use Rattle.rules.specs.Readers.{Reader}
 use Rattle.rules.specs.Sessions.{Place, way_of, Window, Session, with_window, fill_answer, fill_window, FillBuf, Filling, Filled, refuses, Uses, FillingCall, stands_open}
 use Rattle.rules.specs.Sessions as sessions
 use Rattle.service_law.specs.Calls.{Call, handed, filled, handler_at, at_index, State, Step}
-use Rattle.service_law.specs.Marks.{UnitMark, place_bytes, given_to_windows, told, WindowMark, seen}
+use Rattle.service_law.specs.Marks.{UnitMark, place_bytes, told, WindowMark, seen}
 use Rattle.service_law.specs.Law.{Terms, terms_after, terms_of, Opens, window_mark, use_marks, Lawful}
 use Rattle.service_law.specs.Law as law
 use Rattle.service_law.proofs.Chains.{chain_append}
@@ -19,7 +19,7 @@ use Rattle.service_law.proofs.Units.{Course}
 use Rattle.service_law.proofs.Units as units
 use Rattle.service_law.proofs.Windows.{bytes_opened, opened_bytes}
 use Rattle.service_law.proofs.Windows as windows
-use Rattle.service_law.proofs.Reading.{course, ShowsHeld}
+use Rattle.service_law.proofs.Reading.{course}
 use Rattle.service_law.proofs.Filling.{Reads, fill_reads, fill_exact}
 use Rattle.service_law.proofs.Steps.{Long, Sound, Accounts, consumed_fits, consumed_goes, consumed_long}
 
@@ -57,14 +57,9 @@ some_bytes w l e = go w.unread (grind arith)
 module _ {H : Type 0} (rule : Rule H) where
   -- what fill_buf does
   record Opening (a : State H) (h : H) (us : List UnitMark) (ws : List WindowMark) (u : Result (List ℕ) Refusal) (s : Session) (rest : List Item) (h' : H) : Type 0 where
-    lives : units.Lives (course a.session.reader a.left) us (course s.reader rest)
+    reads : Reads rule a.session.reader a.left h us (opened_bytes ws) s.reader rest h'
     goes : windows.Lives a.session.window ws s.window
-    opens : given_to_windows us ≡ opened_bytes ws
-    tells : told rule h us ≡ h'
-    keeps_stops : s.reader.stops ≡ a.session.reader.stops
-    keeps_flag : s.reader.flag ≡ a.session.reader.flag
     keeps_bands : s.bands ≡ a.session.bands
-    shows_held : ShowsHeld s.reader
     long : Long s.window
     bytes : BytesAre u s.window.unread
 
@@ -72,22 +67,11 @@ module _ {H : Type 0} (rule : Rule H) where
   opening_none a h u k e = grind arith
 
   opening_fill : (a : State H) (rest : List Item) (h h' : H) (us : List UnitMark) (place : Place) (r : Reader) → Sound a → a.session.window.unread ≡ [] →
-      Reads rule a.session.reader a.left h us place r rest h' →
+      Reads rule a.session.reader a.left h us (place_bytes place) r rest h' →
       Opening a h us (window_mark place) (fill_answer place) (record { reader = r; bands = a.session.bands; window = fill_window a.session.window place }) rest h'
   opening_fill a rest h h' us place r k e o =
       let p = placed a.session.window place e k.long in
-      record {
-        lives = o.lives;
-        goes = p.0;
-        opens = o.gives ∙ p.1;
-        tells = o.tells;
-        keeps_stops = o.keeps_stops;
-        keeps_flag = o.keeps_flag;
-        keeps_bands = refl;
-        shows_held = o.shows_held;
-        long = p.2;
-        bytes = p.3;
-      }
+      record { reads = rw (← p.1) o; goes = p.0; keeps_bands = refl; long = p.2; bytes = p.3 }
 
   abbrev Opened : State H → H → Result (List ℕ) Refusal → Session → List Item → H → Type 0
   Opened a h u s rest h' = (us : List UnitMark) × (ws : List WindowMark) × Opening a h us ws u s rest h' × Opens rule (terms_of a) h a.session.window us ws u s.window
@@ -117,14 +101,16 @@ module _ {H : Type 0} (rule : Rule H) where
       a.inside ≡ true → handler_at k a.handlers ≡ Some h → Opening a h us ws u s rest h' → Using c u s.window f w →
       Accounts rule a (handed k c) us (seen a.session.window ∷ (ws ++ use_marks c u f)) (behind_filling a k h' (with_window s w) rest)
   filling_accounts a k c h h' us ws u s rest f w i e o n =
-      let m = same_at k (λ x. h') (λ x. told rule x us) h a.handlers e (sym o.tells) in
-      record {
-        lives = o.lives;
-        goes = (refl, chain_append windows.May windows.window_behind ws (use_marks c u f) a.session.window s.window w o.goes n.goes);
-        opens = rw (flat_map-append bytes_opened ws (use_marks c u f), n.opens, append-nil) o.opens;
-        terms = λ j. record { stops = o.keeps_stops j; flag = o.keeps_flag j; inside = sym i j; bands = o.keeps_bands j; handlers = m j };
-        sound = record { shows_held = o.shows_held; long = n.long; shut_outside = λ x. cc };
-      }
+      let r = o.reads in
+      let m = same_at k (λ x. h') (λ x. told rule x us) h a.handlers e (sym r.tells) in (
+        record {
+          lives = r.lives;
+          goes = (refl, chain_append windows.May windows.window_behind ws (use_marks c u f) a.session.window s.window w o.goes n.goes);
+          opens = rw (flat_map-append bytes_opened ws (use_marks c u f), n.opens, append-nil) r.gives;
+          terms = λ j. record { stops = r.keeps_stops j; flag = r.keeps_flag j; inside = sym i j; bands = o.keeps_bands j; handlers = m j };
+        },
+        record { shows_held = r.shows_held; long = n.long; shut_outside = λ x. cc },
+      )
 
   refused_accounts : (a : State H) (k : ℕ) (c : Filling) (h : H) → Sound a → a.inside ≡ true → handler_at k a.handlers ≡ Some h →
       Accounts rule a (handed k c) [] (seen a.session.window ∷ []) (behind_filling a k h a.session a.left)

@@ -59,7 +59,7 @@ read_lives way r items = go r.phase
     go (holds l) = held_read way l items r.view
     go p = (refl, refl)
 
-pub peek_lives : (r : Reader) (items : List Item) → Lives (course r items) (peek_marks r items) (course (peek_after r items) (left_in r.phase items))
+peek_lives : (r : Reader) (items : List Item) → Lives (course r items) (peek_marks r items) (course (peek_after r items) (left_in r.phase items))
 peek_lives r items = go r.phase
   where
     go : (p : Phase) → Lives (record { stands = standing p; left = items; view = r.view }) (peek_by_phase p (first_unit items).line (peeked (first_unit items).line (verdict_in r.stops r.flag p items)))
@@ -77,12 +77,6 @@ module _ (way : Way) (r : Reader) (items : List Item) where
   pub read_by : ReadBy r.stops r.flag way (read_marks way r items) (read_place way r items)
   read_by = grind (arith, law.ReadBy.of_new, law.ReadBy.of_held, law.ReadBy.was_done)
 
-pub peek_gives : (r : Reader) (items : List Item) → given_to_windows (peek_marks r items) ≡ []
-peek_gives r items = grind arith
-
-pub peek_by : (r : Reader) (items : List Item) → PeekBy r.stops r.flag (peek_marks r items) (answer (verdict r items))
-peek_by r items = grind (arith, law.PeekBy.of_new, law.PeekBy.of_held, law.PeekBy.was_done)
-
 -- the view shows the line that a reader holds
 abbrev ShowsIn : Phase → View → Type 0
 ShowsIn (holds l) v = v ≡ the_line l
@@ -94,15 +88,33 @@ ShowsHeld r = ShowsIn r.phase r.view
 pub read_shows : (r : Reader) (items : List Item) → ShowsHeld (read_after r items)
 read_shows r items = grind arith
 
-pub peek_shows : (r : Reader) (items : List Item) → ShowsHeld r → ShowsHeld (peek_after r items)
+-- what a call does that gives no window a byte
+pub record GivesNone (r : Reader) (items : List Item) (us : List UnitMark) (r' : Reader) (rest : List Item) : Type 0 where
+  pub lives : Lives (course r items) us (course r' rest)
+  pub shows_held : ShowsHeld r'
+  pub gives : given_to_windows us ≡ []
+
+whole_gives : (r : Reader) (items : List Item) → given_to_windows (read_marks whole r items) ≡ []
+whole_gives r items = grind arith
+
+pub reads_whole : (r : Reader) (items : List Item) → GivesNone r items (read_marks whole r items) (read_after r items) (left_in r.phase items)
+reads_whole r items = record { lives = read_lives whole r items; shows_held = read_shows r items; gives = whole_gives r items }
+
+peek_shows : (r : Reader) (items : List Item) → ShowsHeld r → ShowsHeld (peek_after r items)
 peek_shows r items h = grind arith
 
--- a call that hands on whole lines answers by the place, and gives no window a byte
-pub whole_place : (v : Verdict) → answer v ≡ answer_at (destination whole v)
-whole_place v = grind arith
+peek_gives : (r : Reader) (items : List Item) → given_to_windows (peek_marks r items) ≡ []
+peek_gives r items = grind arith
 
-pub whole_gives : (r : Reader) (items : List Item) → given_to_windows (read_marks whole r items) ≡ []
-whole_gives r items = grind arith
+pub peeks : (r : Reader) (items : List Item) → ShowsHeld r → GivesNone r items (peek_marks r items) (peek_after r items) (left_in r.phase items)
+peeks r items h = record { lives = peek_lives r items; shows_held = peek_shows r items h; gives = peek_gives r items }
+
+pub peek_by : (r : Reader) (items : List Item) → PeekBy r.stops r.flag (peek_marks r items) (answer (verdict r items))
+peek_by r items = grind (arith, law.PeekBy.of_new, law.PeekBy.of_held, law.PeekBy.was_done)
+
+-- a call that hands on whole lines answers by the place
+pub whole_answer : (v : Verdict) → answer v ≡ answer_at (destination whole v)
+whole_answer v = grind arith
 
 -- By the law one reading goes in one way only, and that is the rules'
 

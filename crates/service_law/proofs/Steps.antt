@@ -1,7 +1,6 @@
 -- What each call that fills nothing does to units, windows and terms.
 use Rattle.std.proofs.Common.{◌≡◌, ℕ, zero, suc, ◌-◌, Bool, true, false, cond, eqb, List, []}
-use Rattle.std.proofs.Common.{◌∷◌, length, take, drop, Some, None, Option, refl, ap, arith, length-take, length-drop, take-append-drop}
-use Rattle.std.proofs.lemmas.Bool.{cond_both}
+use Rattle.std.proofs.Common.{◌∷◌, length, take, drop, Some, None, Option, sym, refl, ap, ◌∙◌, arith, length-take, length-drop, take-append-drop}
 use Rattle.lines.specs.Format.{Line}
 use Rattle.links.specs.Items.{Item}
 use Rattle.rules.specs.Handlers.{Rule}
@@ -13,13 +12,13 @@ use Rattle.service_law.specs.Calls.{Call, plain, State, May, plain_side, answere
 use Rattle.service_law.specs.Calls as calls
 use Rattle.service_law.specs.Marks.{UnitMark, edited, found, resumed, standing, given_to_windows}
 use Rattle.service_law.specs.Marks.{WindowMark, seen, consumed, gone}
-use Rattle.service_law.specs.Law.{terms_after, terms_of, Lawful}
+use Rattle.service_law.specs.Law.{Terms, terms_after, terms_of, Lawful}
 use Rattle.service_law.specs.Law as law
 use Rattle.service_law.proofs.Units.{Course}
 use Rattle.service_law.proofs.Units as units
 use Rattle.service_law.proofs.Windows.{opened_bytes}
 use Rattle.service_law.proofs.Windows as windows
-use Rattle.service_law.proofs.Reading.{course, read_marks, read_lives, read_by, ShowsHeld, read_shows, peek_marks, peek_lives, peek_gives, peek_by, peek_shows, whole_place, whole_gives}
+use Rattle.service_law.proofs.Reading.{course, read_marks, read_by, ShowsHeld, GivesNone, reads_whole, peek_marks, peeks, peek_by, whole_answer}
 
 -- In every service the view shows the held line, a window has the bytes from pos to cap, and outside a session there is none
 
@@ -31,14 +30,16 @@ pub record Sound {H : Type 0} (a : State H) : Type 0 where
   pub long : Long a.session.window
   pub shut_outside : a.inside ≡ false → a.session.window ≡ no_window
 
--- What one call does
-
-pub record Accounts {H : Type 0} (rule : Rule H) (a : State H) (call : Call) (us : List UnitMark) (ws : List WindowMark) (b : State H) : Type 0 where
+-- what befell on the way from a to b, where the terms are g
+pub record Does {H : Type 0} (a : State H) (us : List UnitMark) (ws : List WindowMark) (g : Terms H) (b : State H) : Type 0 where
   pub lives : units.Lives (course a.session.reader a.left) us (course b.session.reader b.left)
   pub goes : windows.Lives a.session.window ws b.session.window
   pub opens : given_to_windows us ≡ opened_bytes ws
-  pub terms : terms_of b ≡ terms_after rule (terms_of a) call us
-  pub sound : Sound b
+  pub terms : terms_of b ≡ g
+
+-- what one call does
+abbrev pub Accounts : {H : Type 0} → Rule H → State H → Call → List UnitMark → List WindowMark → State H → Type 0
+Accounts rule a call us ws b = Does a us ws (terms_after rule (terms_of a) call us) b × Sound b
 
 -- Edits
 
@@ -49,16 +50,10 @@ edit_marks_of position b p None = found (standing p) ∷ []
 abbrev pub edit_marks : ℕ → ℕ → Reader → List UnitMark
 edit_marks position b r = edit_marks_of position b r.phase (edited_in position b r.phase)
 
-edit_lives : (position b : ℕ) (r : Reader) (items : List Item) → ShowsHeld r → units.Lives (course r items) (edit_marks position b r) (course (edit_after r (edited_in position b r.phase)) items)
-edit_lives position b r items h = grind arith
+edits : (position b : ℕ) (r : Reader) (items : List Item) → ShowsHeld r → GivesNone r items (edit_marks position b r) (edit_after r (edited_in position b r.phase)) items
+edits position b r items h = grind arith
 
-edit_shows : (position b : ℕ) (r : Reader) → ShowsHeld r → ShowsHeld (edit_after r (edited_in position b r.phase))
-edit_shows position b r h = grind arith
-
-edit_gives : (position b : ℕ) (r : Reader) → given_to_windows (edit_marks position b r) ≡ []
-edit_gives position b r = grind arith
-
-edit_lawful : {H : Type 0} (rule : Rule H) (g : law.Terms H) (position b : ℕ) (r : Reader) →
+edit_lawful : {H : Type 0} (rule : Rule H) (g : Terms H) (position b : ℕ) (r : Reader) →
     Lawful rule g (plain (replace_and_truncate position b)) (calls.edit (edit_answer (edited_in position b r.phase))) (edit_marks position b r) []
 edit_lawful rule g position b r = grind (arith, law.edits, law.edits_nothing)
 
@@ -99,33 +94,20 @@ plain_windows (consume n) s = seen s.window ∷ consumed (take n s.window.unread
 plain_windows read_data_line s = seen s.window ∷ []
 plain_windows c s = []
 
-plain_lives : (c : Plain) (s : Session) (items : List Item) → ShowsHeld s.reader → units.Lives (course s.reader items) (plain_units c s items) (course (session_after c s items).reader (left_after c s items))
-plain_lives read_line s items k = read_lives whole s.reader items
-plain_lives peek_line s items k = peek_lives s.reader items
-plain_lives (replace_and_truncate position b) s items k = edit_lives position b s.reader items k
-plain_lives read_data_line s items k = go (eqb s.window.cap 0)
+plain_reads : (c : Plain) (s : Session) (items : List Item) → ShowsHeld s.reader → GivesNone s.reader items (plain_units c s items) (session_after c s items).reader (left_after c s items)
+plain_reads read_line s items k = reads_whole s.reader items
+plain_reads peek_line s items k = peeks s.reader items k
+plain_reads (replace_and_truncate position b) s items k = edits position b s.reader items k
+plain_reads read_data_line s items k = go (eqb s.window.cap 0)
   where
-    go : (x : Bool) → units.Lives (course s.reader items) (cond x (read_marks whole s.reader items) []) (course (cond x (with_reader s (read_after s.reader items)) s).reader (cond x (left_in s.reader.phase items) items))
-    go true = read_lives whole s.reader items
-    go false = refl
-plain_lives peek_data_line s items k = peek_lives s.reader items
-plain_lives c s items k = grind arith
+    go : (x : Bool) → GivesNone s.reader items (cond x (read_marks whole s.reader items) []) (cond x (with_reader s (read_after s.reader items)) s).reader (cond x (left_in s.reader.phase items) items)
+    go true = reads_whole s.reader items
+    go false = record { lives = refl; shows_held = k; gives = refl }
+plain_reads peek_data_line s items k = peeks s.reader items k
+plain_reads c s items k = grind arith
 
-plain_shows : (c : Plain) (s : Session) (items : List Item) → ShowsHeld s.reader → ShowsHeld (session_after c s items).reader
-plain_shows read_line s items k = read_shows s.reader items
-plain_shows peek_line s items k = peek_shows s.reader items k
-plain_shows (replace_and_truncate position b) s items k = edit_shows position b s.reader k
-plain_shows read_data_line s items k = cond_both (eqb s.window.cap 0) _ _ (λ (x : Session). ShowsHeld x.reader) (λ e. read_shows s.reader items) (λ e. k)
-plain_shows peek_data_line s items k = peek_shows s.reader items k
-plain_shows c s items k = grind arith
-
-plain_opens : (c : Plain) (s : Session) (items : List Item) → given_to_windows (plain_units c s items) ≡ opened_bytes (plain_windows c s)
-plain_opens read_line s items = whole_gives s.reader items
-plain_opens peek_line s items = peek_gives s.reader items
-plain_opens (replace_and_truncate position b) s items = edit_gives position b s.reader
-plain_opens read_data_line s items = cond_both (eqb s.window.cap 0) _ _ (λ x. given_to_windows x ≡ []) (λ e. whole_gives s.reader items) (λ e. refl)
-plain_opens peek_data_line s items = peek_gives s.reader items
-plain_opens c s items = refl
+plain_opens : (c : Plain) (s : Session) → opened_bytes (plain_windows c s) ≡ []
+plain_opens c s = grind arith
 
 plain_goes : {H : Type 0} (c : Plain) (a : State H) → Sound a → May a.inside (plain_side c) → windows.Lives a.session.window (plain_windows c a.session) (session_after c a.session a.left).window
 plain_goes (consume n) a k m = (refl, consumed_goes n a.session.window k.long)
@@ -135,33 +117,27 @@ plain_long : (c : Plain) (s : Session) (items : List Item) → Long s.window →
 plain_long (consume n) s items k = consumed_long n s.window k
 plain_long c s items k = grind arith
 
-plain_sound : {H : Type 0} (c : Plain) (a : State H) → Sound a → May a.inside (plain_side c) → Sound (after_plain c a)
-plain_sound c a k m = record { shows_held = plain_shows c a.session a.left k.shows_held; long = plain_long c a.session a.left k.long; shut_outside = grind arith }
-
 module _ {H : Type 0} (rule : Rule H) where
   pub plain_accounts : (c : Plain) (a : State H) → Sound a → May a.inside (plain_side c) → Accounts rule a (plain c) (plain_units c a.session a.left) (plain_windows c a.session) (after_plain c a)
   plain_accounts c a k m =
-      record {
-        lives = plain_lives c a.session a.left k.shows_held;
-        goes = plain_goes c a k m;
-        opens = plain_opens c a.session a.left;
-        terms = grind arith;
-        sound = plain_sound c a k m;
-      }
+      let o = plain_reads c a.session a.left k.shows_held in (
+        record { lives = o.lives; goes = plain_goes c a k m; opens = o.gives ∙ sym (plain_opens c a.session); terms = grind arith },
+        record { shows_held = o.shows_held; long = plain_long c a.session a.left k.long; shut_outside = grind arith },
+      )
 
   -- what the table of calls says of them
   marker_stands : (p : Phase) → law.marker_of (standing p) ≡ Rattle.rules.specs.Readers.stopped_at p
   marker_stands p = grind arith
 
   pub plain_lawful : (c : Plain) (a : State H) → Lawful rule (terms_of a) (plain c) (answered c a.session a.left) (plain_units c a.session a.left) (plain_windows c a.session)
-  plain_lawful read_line a = rw (whole_place (verdict a.session.reader a.left)) (law.reads (read_by whole a.session.reader a.left))
+  plain_lawful read_line a = rw (whole_answer (verdict a.session.reader a.left)) (law.reads (read_by whole a.session.reader a.left))
   plain_lawful peek_line a = law.peeks (peek_by a.session.reader a.left)
   plain_lawful (replace_and_truncate position b) a = edit_lawful rule (terms_of a) position b a.session.reader
   plain_lawful read_data_line a = go (eqb a.session.window.cap 0) refl
     where
       go : (x : Bool) → eqb a.session.window.cap 0 ≡ x →
           Lawful rule (terms_of a) (plain read_data_line) (calls.line (data_line_answer x (answer (verdict a.session.reader a.left)))) (cond x (read_marks whole a.session.reader a.left) []) (seen a.session.window ∷ [])
-      go true e = rw (whole_place (verdict a.session.reader a.left)) (law.reads_data e (read_by whole a.session.reader a.left))
+      go true e = rw (whole_answer (verdict a.session.reader a.left)) (law.reads_data e (read_by whole a.session.reader a.left))
       go false e = law.reads_no_data e
   plain_lawful stopped_at a = rw (← marker_stands a.session.reader.phase) law.names_marker
   plain_lawful peek_data_line a = law.peeks_data (peek_by a.session.reader a.left)
