@@ -1,5 +1,5 @@
 -- What a fill does to units and to its handler; and that the law lets it do nothing else.
-use Rattle.std.proofs.Common.{◌≡◌, ℕ, Bool, true, List, [], ◌++◌, Option, Result, refl, ◌∙◌, append_assoc, arith}
+use Rattle.std.proofs.Common.{◌≡◌, ℕ, Bool, true, List, [], ◌++◌, Option, Result, refl, ◌∙◌, append-nil, append_assoc, arith}
 use Rattle.std.proofs.lemmas.Grind.{flat_map-append, fold-append}
 use Rattle.lines.specs.Refusals.{Refusal}
 use Rattle.lines.specs.Format.{Line}
@@ -12,8 +12,8 @@ use Rattle.service_law.specs.Marks.{UnitMark, place_bytes, given_to_windows, tol
 use Rattle.service_law.specs.Law.{ReadBy, FillBy}
 use Rattle.service_law.specs.Law as law
 use Rattle.service_law.proofs.Chains.{chain_append, chain_behind}
-use Rattle.service_law.proofs.Units.{Course, course_behind, May, Lives}
-use Rattle.service_law.proofs.Reading.{course, read_place, read_marks, read_lives, read_gives, read_tells, read_by, ShowsHeld, read_shows, read_exact}
+use Rattle.service_law.proofs.Units.{Course, course_behind, May, Lives, course}
+use Rattle.service_law.proofs.Reading.{read_place, read_marks, read_lives, read_by, ShowsHeld, read_shows, read_exact}
 
 -- what lines that were read did to the reader and the handler, d being the bytes that they gave to windows
 pub record Reads {H : Type 0} (rule : Rule H) (r : Reader) (items : List Item) (h : H) (us : List UnitMark) (d : List ℕ) (r' : Reader) (rest : List Item) (h' : H) : Type 0 where
@@ -29,8 +29,8 @@ module _ {H : Type 0} (rule : Rule H) (way : Way) where
   one r items h =
       record {
         lives = read_lives way r items;
-        gives = read_gives way r items;
-        tells = read_tells way r items rule h;
+        gives = grind (arith, append-nil);
+        tells = grind arith;
         keeps_stops = refl;
         keeps_flag = refl;
         shows_held = read_shows r items;

@@ -9,11 +9,10 @@ use Rattle.service_law.specs.Marks.{UnitMark, bytes_given, WindowMark}
 use Rattle.service_law.specs.Law.{Entry, said, unit_marks, window_marks, terms_behind, terms_of, Lawful, AllLawful, Law, LawHolds}
 use Rattle.service_law.specs.Law as law
 use Rattle.service_law.proofs.Chains.{chain_append}
-use Rattle.service_law.proofs.Units.{units_go, taken_first, view_last, reported_as_edited}
+use Rattle.service_law.proofs.Units.{units_go, taken_first, view_last, reported_once, course}
 use Rattle.service_law.proofs.Units as units
 use Rattle.service_law.proofs.Windows.{bytes_opened, opened_bytes, windows_go, in_order}
 use Rattle.service_law.proofs.Windows as windows
-use Rattle.service_law.proofs.Reading.{course}
 use Rattle.service_law.proofs.Steps.{Sound, Does, Accounts, plain_units, plain_windows, plain_accounts, plain_lawful}
 use Rattle.service_law.proofs.Openings.{unmoved, filled_accounts}
 
@@ -70,7 +69,7 @@ module _ {H : Type 0} (rule : Rule H) where
           units_in_order = record {
             taken_first = t.0;
             given = t.1;
-            reported_once = reported_as_edited c us b.session.reader.phase b.left b.session.reader.view refl n.2.lives;
+            reported_once = reported_once c us b.session.reader b.left refl n.2.lives;
             lives = units_go c us d n.2.lives;
             view_last = view_last c us d n.2.lives;
           };

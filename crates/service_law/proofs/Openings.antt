@@ -15,11 +15,10 @@ use Rattle.service_law.specs.Marks.{UnitMark, place_bytes, told, WindowMark, see
 use Rattle.service_law.specs.Law.{Terms, terms_after, terms_of, Opens, window_mark, use_marks, Lawful}
 use Rattle.service_law.specs.Law as law
 use Rattle.service_law.proofs.Chains.{chain_append}
-use Rattle.service_law.proofs.Units.{Course}
+use Rattle.service_law.proofs.Units.{Course, course}
 use Rattle.service_law.proofs.Units as units
 use Rattle.service_law.proofs.Windows.{bytes_opened, opened_bytes}
 use Rattle.service_law.proofs.Windows as windows
-use Rattle.service_law.proofs.Reading.{course}
 use Rattle.service_law.proofs.Filling.{Reads, fill_reads, fill_exact}
 use Rattle.service_law.proofs.Steps.{Long, Sound, Accounts, consumed_fits, consumed_goes, consumed_long}
 

@@ -1,20 +1,16 @@
 -- What one read_line and one peek_line do to units; and that the law lets them do nothing else.
-use Rattle.std.proofs.Common.{◌≡◌, Bool, List, [], ◌∷◌, ◌++◌, Ok, Option, Result, refl, append-nil, arith}
+use Rattle.std.proofs.Common.{◌≡◌, Bool, List, [], ◌∷◌, ◌++◌, Ok, Option, Result, refl, arith}
 use Rattle.lines.specs.Refusals.{Refusal}
 use Rattle.lines.specs.Format.{Line}
 use Rattle.links.specs.Items.{Item}
 use Rattle.links.specs.Cut.{first_unit}
-use Rattle.rules.specs.Handlers.{Rule}
 use Rattle.rules.specs.Readers.{Stops, View, the_line, Phase, ready, holds, Reader, Verdict, judged, verdict_in, verdict, left_in, answer, read_phase, peek_phase, read_after, peek_after}
 use Rattle.rules.specs.Readers as readers
-use Rattle.rules.specs.Sessions.{Place, Way, whole, band_rule, destination, moved}
-use Rattle.service_law.specs.Marks.{Piece, free, has, UnitMark, took, shown, reported, standing, place_bytes, given_to_windows, told}
+use Rattle.rules.specs.Sessions.{Place, Way, whole, band_rule, destination}
+use Rattle.service_law.specs.Marks.{Piece, free, has, UnitMark, took, shown, reported, standing, given_to_windows}
 use Rattle.service_law.specs.Law.{ReadBy, PeekBy, peeked, answer_at}
 use Rattle.service_law.specs.Law as law
-use Rattle.service_law.proofs.Units.{Course, Lives}
-
-abbrev pub course : Reader → List Item → Course
-course r items = record { stands = standing r.phase; left = items; view = r.view }
+use Rattle.service_law.proofs.Units.{Course, Lives, course}
 
 -- a reader that is ready takes a unit, one that holds a line reports it or shows it, and one that is done shows that
 abbrev read_by_phase : Phase → Piece → Place → List UnitMark
@@ -67,15 +63,11 @@ peek_lives r items = go r.phase
     go ready = ((refl, refl), judged_peeked r.stops r.flag (first_unit items).line (first_unit items).rest r.view)
     go p = (refl, refl)
 
-module _ (way : Way) (r : Reader) (items : List Item) where
-  pub read_gives : given_to_windows (read_marks way r items) ≡ place_bytes (read_place way r items)
-  read_gives = grind (arith, append-nil)
+pub read_by : (way : Way) (r : Reader) (items : List Item) → ReadBy r.stops r.flag way (read_marks way r items) (read_place way r items)
+read_by way r items = grind (arith, law.ReadBy.of_new, law.ReadBy.of_held, law.ReadBy.was_done)
 
-  pub read_tells : {H : Type 0} (rule : Rule H) (h : H) → told rule h (read_marks way r items) ≡ moved rule h (read_place way r items)
-  read_tells rule h = grind arith
-
-  pub read_by : ReadBy r.stops r.flag way (read_marks way r items) (read_place way r items)
-  read_by = grind (arith, law.ReadBy.of_new, law.ReadBy.of_held, law.ReadBy.was_done)
+pub peek_by : (r : Reader) (items : List Item) → PeekBy r.stops r.flag (peek_marks r items) (answer (verdict r items))
+peek_by r items = grind (arith, law.PeekBy.of_new, law.PeekBy.of_held, law.PeekBy.was_done)
 
 -- the view shows the line that a reader holds
 abbrev ShowsIn : Phase → View → Type 0
@@ -94,23 +86,11 @@ pub record GivesNone (r : Reader) (items : List Item) (us : List UnitMark) (r' :
   pub shows_held : ShowsHeld r'
   pub gives : given_to_windows us ≡ []
 
-whole_gives : (r : Reader) (items : List Item) → given_to_windows (read_marks whole r items) ≡ []
-whole_gives r items = grind arith
-
 pub reads_whole : (r : Reader) (items : List Item) → GivesNone r items (read_marks whole r items) (read_after r items) (left_in r.phase items)
-reads_whole r items = record { lives = read_lives whole r items; shows_held = read_shows r items; gives = whole_gives r items }
-
-peek_shows : (r : Reader) (items : List Item) → ShowsHeld r → ShowsHeld (peek_after r items)
-peek_shows r items h = grind arith
-
-peek_gives : (r : Reader) (items : List Item) → given_to_windows (peek_marks r items) ≡ []
-peek_gives r items = grind arith
+reads_whole r items = record { lives = read_lives whole r items; shows_held = read_shows r items; gives = grind arith }
 
 pub peeks : (r : Reader) (items : List Item) → ShowsHeld r → GivesNone r items (peek_marks r items) (peek_after r items) (left_in r.phase items)
-peeks r items h = record { lives = peek_lives r items; shows_held = peek_shows r items h; gives = peek_gives r items }
-
-pub peek_by : (r : Reader) (items : List Item) → PeekBy r.stops r.flag (peek_marks r items) (answer (verdict r items))
-peek_by r items = grind (arith, law.PeekBy.of_new, law.PeekBy.of_held, law.PeekBy.was_done)
+peeks r items h = record { lives = peek_lives r items; shows_held = grind arith; gives = grind arith }
 
 -- a call that hands on whole lines answers by the place
 pub whole_answer : (v : Verdict) → answer v ≡ answer_at (destination whole v)

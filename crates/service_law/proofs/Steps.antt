@@ -14,11 +14,11 @@ use Rattle.service_law.specs.Marks.{UnitMark, edited, found, resumed, standing, 
 use Rattle.service_law.specs.Marks.{WindowMark, seen, consumed, gone}
 use Rattle.service_law.specs.Law.{Terms, terms_after, terms_of, Lawful}
 use Rattle.service_law.specs.Law as law
-use Rattle.service_law.proofs.Units.{Course}
+use Rattle.service_law.proofs.Units.{Course, course}
 use Rattle.service_law.proofs.Units as units
 use Rattle.service_law.proofs.Windows.{opened_bytes}
 use Rattle.service_law.proofs.Windows as windows
-use Rattle.service_law.proofs.Reading.{course, read_marks, read_by, ShowsHeld, GivesNone, reads_whole, peek_marks, peeks, peek_by, whole_answer}
+use Rattle.service_law.proofs.Reading.{read_marks, read_by, ShowsHeld, GivesNone, reads_whole, peek_marks, peeks, peek_by, whole_answer}
 
 -- In every service the view shows the held line, a window has the bytes from pos to cap, and outside a session there is none
 

@@ -3,9 +3,9 @@ use Rattle.std.proofs.Common.{◌≡◌, ℕ, ◌<◌, List, [], ◌∷◌, ◌+
 use Rattle.lines.specs.Format.{payload}
 use Rattle.links.specs.Items.{Item}
 use Rattle.links.specs.Cut.{first_unit, units, after}
-use Rattle.rules.specs.Readers.{View, Phase}
+use Rattle.rules.specs.Readers.{View, Reader}
 use Rattle.service_law.specs.Marks.{Piece, Standing, free, has, UnitMark, took, shown, edited, reported, found, resumed, behind, released, UnitGoes, UnitsGo, at_end, next}
-use Rattle.service_law.specs.Marks.{taken, reports_of, edit_unit, edits_on, as_edited, standing, held, view_behind, viewed}
+use Rattle.service_law.specs.Marks.{taken, reports_of, edit_unit, edits_on, as_edited, standing, held, standing_view, edited_view, view_at, view_behind, viewed}
 use Rattle.service_law.specs.Marks as life
 use Rattle.service_law.proofs.Chains.{Chain}
 
@@ -14,6 +14,9 @@ pub record Course : Type 0 where
   pub stands : Standing
   pub left : List Item
   pub view : View
+
+abbrev pub course : Reader → List Item → Course
+course r items = record { stands = standing r.phase; left = items; view = r.view }
 
 abbrev pub stands_behind : Standing → UnitMark → Standing
 stands_behind a (took u) = has u
@@ -79,8 +82,17 @@ reports_edited : (c : Course) (us : List UnitMark) (d : Course) → Lives c us d
 reports_edited c [] d p = ap (λ x. kept x.stands) p ∙ none_more c.stands
 reports_edited c (m ∷ us) d p = one_more c m us (kept d.stands) p.0 (reports_edited (course_behind c m) us d p.1)
 
-kept_held : (p : Phase) → kept (standing p) ≡ held p
-kept_held p = grind arith
+pub reported_once : (c : Course) (us : List UnitMark) (r : Reader) (items : List Item) → c.stands ≡ free → Lives c us (course r items) → reports_of us ++ held r.phase ≡ as_edited us
+reported_once c us r items f g = grind (arith, reports_edited c us (course r items) g)
 
-pub reported_as_edited : (c : Course) (us : List UnitMark) (p : Phase) (items : List Item) (v : View) → c.stands ≡ free → Lives c us (record { stands = standing p; left = items; view = v }) → reports_of us ++ held p ≡ as_edited us
-reported_as_edited c us p items v f g = grind (arith, kept_held p, reports_edited c us _ g)
+-- The life of units, the cut and the view tell the course
+
+pub lives_of : {a b : Standing} {us : List UnitMark} (items : List Item) (v : View) → UnitsGo a us b → taken us ≡ units (length (taken us)) items →
+    Lives (record { stands = a; left = items; view = v }) us (record { stands = b; left = after (length (taken us)) items; view = viewed v us })
+lives_of items v at_end e = refl
+lives_of items v (next life.takes p) e = ((refl, cc), lives_of (first_unit items).rest v p cc)
+lives_of items v (next (life.shows {a}) p) e = (refl, lives_of items (standing_view a) p e)
+lives_of items v (next (life.edits {d} {position} {b} h) p) e = ((d, refl, h), lives_of items (edited_view position b v) p e)
+lives_of items v (next (life.reports {u} {place}) p) e = (refl, lives_of items (view_at u place) p e)
+lives_of items v (next life.finds p) e = (refl, lives_of items v p e)
+lives_of items v (next life.resumes p) e = (tt, lives_of items v p e)

@@ -1,5 +1,6 @@
 -- The life of windows, and what it says of their bytes.
-use Rattle.std.proofs.Common.{◌≡◌, ℕ, List, [], ◌∷◌, ◌++◌, length, drop, sym, ap, ◌∙◌, subst, append_assoc, append-nil, arith}
+use Rattle.std.proofs.Common.{◌≡◌, ℕ, List, [], ◌∷◌, ◌++◌, length, drop, sym, refl, ap, ◌∙◌, subst, append_assoc, append-nil, arith}
+use Rattle.std.proofs.Math.Seq.{drop-append_seam}
 use Rattle.std.specs.List.{flat_map}
 use Rattle.rules.specs.Sessions.{Window, no_window, window_at}
 use Rattle.service_law.specs.Marks.{WindowMark, opened, seen, consumed, appended, gone, up_to, WindowGoes, WindowsGo, bytes_used, used}
@@ -46,3 +47,12 @@ one_more w m o v k h e = grind (arith, append_assoc, append-nil)
 pub in_order : (w : Window) (ws : List WindowMark) (x : Window) → Lives w ws x → w.unread ++ opened_bytes ws ≡ used ws ++ x.unread
 in_order w [] x p = append-nil w.unread ∙ ap (λ y. y.unread) (sym p)
 in_order w (m ∷ ws) x p = one_more w m (opened_bytes ws) (used ws) x.unread p.0 (in_order (window_behind w m) ws x p.1)
+
+-- The life of windows tells the chain
+
+may_be : {w x : Window} {m : WindowMark} → WindowGoes w m x → May w m × (x ≡ window_behind w m)
+may_be g = grind (arith, drop-append_seam)
+
+pub lives_of : {w x : Window} {ws : List WindowMark} → WindowsGo w ws x → Lives w ws x
+lives_of life.WindowsGo.at_end = refl
+lives_of (life.WindowsGo.next g p) = let m = may_be g in (m.0, rw (← m.1) (lives_of p))
