@@ -69,11 +69,9 @@ module _ {H : Type 0} (rule : Rule H) (way : Way) where
       )
 
   -- by the law a fill goes in one way only, and that is the rules'
-  abbrev pub FilledSo : Reader → List Item → H → List UnitMark → Place → Type 0
-  FilledSo r items h us place = (r' : Reader) × (rest : List Item) × (h' : H) × Fills rule way r items h place r' rest h' × Reads rule r items h us (place_bytes place) r' rest h'
-
   pub fill_exact : (s : Stops) (flag : Bool) {h : H} {us : List UnitMark} {place : Place} (r : Reader) (items : List Item) (vs : List UnitMark) (x : Course) → r.stops ≡ s → r.flag ≡ flag →
-      FillBy rule s flag way h us place → Lives (course r items) (us ++ vs) x → FilledSo r items h us place
+      FillBy rule s flag way h us place → Lives (course r items) (us ++ vs) x →
+      (r' : Reader) × (rest : List Item) × (h' : H) × Fills rule way r items h place r' rest h' × Reads rule r items h us (place_bytes place) r' rest h'
   fill_exact s flag {h} {us} {place} r items vs x es ef (law.FillBy.ends by e) g =
       let k = read_exact way r items us vs place x (rw (es, ef) by) g in (
         read_after r items,

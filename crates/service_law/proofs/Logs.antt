@@ -30,24 +30,19 @@ module _ {H : Type 0} (rule : Rule H) where
         terms = q.terms ∙ ap (λ g. terms_behind rule g log) p.0.terms;
       }
 
-  -- one call by the rules
-  abbrev Noted : State H → Call → Answer → State H → Type 0
-  Noted a call ans b = (us : List UnitMark) × (ws : List WindowMark) × Accounts rule a call us ws b × Lawful rule (terms_of a) call ans us ws × calls.May a.inside (calls.side call)
-
   unhanded : (a : State H) (k : ℕ) (c : Filling) → Sound a → Accounts rule a (handed k c) [] [] a
   unhanded a k c q = (record { lives = refl; goes = refl; opens = refl; terms = ap (λ hs. record (terms_of a) { handlers = hs }) (sym (unmoved k a.handlers)) }, q)
 
-  noted : {a b : State H} {call : Call} {ans : Answer} → Sound a → Step rule a call ans b → Noted a call ans b
+  -- one call by the rules
+  noted : {a b : State H} {call : Call} {ans : Answer} → Sound a → Step rule a call ans b →
+      (us : List UnitMark) × (ws : List WindowMark) × Accounts rule a call us ws b × Lawful rule (terms_of a) call ans us ws × calls.May a.inside (calls.side call)
   noted {a} q (calls.Step.plainly {c = c} m e f) =
       (plain_units c a.session a.left, plain_windows c a.session, rw f (plain_accounts rule c a q m), rw e (plain_lawful rule c a), m)
   noted {a} q (calls.Step.with_handler {k = k} {c = c} i e t r) = let o = filled_accounts rule a k c q i e t in (o.0, o.1, rw r o.2, o.3, i)
   noted {a} q (calls.Step.without_handler {k = k} {c = c} i e r) = ([], [], rw r (unhanded a k c q), law.names_no_handler e, i)
 
   -- any list of calls by the rules
-  abbrev RunNoted : State H → List (Call × Answer) → State H → Type 0
-  RunNoted a cs b = (log : List Entry) × (said log ≡ cs) × Logged rule a log b × AllLawful rule (terms_of a) log
-
-  run_noted : {a b : State H} {cs : List (Call × Answer)} → Sound a → Runs rule a cs b → RunNoted a cs b
+  run_noted : {a b : State H} {cs : List (Call × Answer)} → Sound a → Runs rule a cs b → (log : List Entry) × (said log ≡ cs) × Logged rule a log b × AllLawful rule (terms_of a) log
   run_noted q calls.Runs.at_end = ([], refl, record { lives = refl; goes = refl; opens = refl; terms = refl }, tt)
   run_noted {a} {b} q (calls.Runs.next {b = c} {call = call} {ans = ans} s r) =
       let n = noted q s in

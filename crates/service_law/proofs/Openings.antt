@@ -11,6 +11,7 @@ use Rattle.rules.specs.Readers.{Reader}
 use Rattle.rules.specs.Sessions.{Place, way_of, Window, Session, with_window, fill_answer, fill_window, FillBuf, Filling, Filled, refuses, Uses, FillingCall, stands_open}
 use Rattle.rules.specs.Sessions as sessions
 use Rattle.service_law.specs.Calls.{Call, handed, filled, handler_at, at_index, State, Step}
+use Rattle.service_law.specs.Calls as calls
 use Rattle.service_law.specs.Marks.{UnitMark, place_bytes, told, WindowMark, seen}
 use Rattle.service_law.specs.Law.{Terms, terms_after, terms_of, Opens, window_mark, use_marks, Lawful}
 use Rattle.service_law.specs.Law as law
@@ -25,7 +26,7 @@ use Rattle.service_law.proofs.Steps.{Long, Sound, Accounts, consumed_fits, consu
 -- a handler is moved, and no other one
 pub same_at : {H : Type 0} (k : ℕ) (f g : H → H) (h : H) (hs : List H) → handler_at k hs ≡ Some h → f h ≡ g h → at_index k f hs ≡ at_index k g hs
 same_at k f g h [] e q = refl
-same_at zero f g h (x ∷ hs) e q = let i : x ≡ h = cc in ap (λ y. y ∷ hs) (rw i q)
+same_at zero f g h (x ∷ hs) e q = grind arith
 same_at (suc k) f g h (x ∷ hs) e q = ap (λ y. x ∷ y) (same_at k f g h hs e q)
 
 pub unmoved : {H : Type 0} (k : ℕ) (hs : List H) → at_index k (λ h. h) hs ≡ hs
@@ -72,10 +73,8 @@ module _ {H : Type 0} (rule : Rule H) where
       let p = placed a.session.window place e k.long in
       record { reads = rw (← p.1) o; goes = p.0; keeps_bands = refl; long = p.2; bytes = p.3 }
 
-  abbrev Opened : State H → H → Result (List ℕ) Refusal → Session → List Item → H → Type 0
-  Opened a h u s rest h' = (us : List UnitMark) × (ws : List WindowMark) × Opening a h us ws u s rest h' × Opens rule (terms_of a) h a.session.window us ws u s.window
-
-  opening : (a : State H) {s : Session} {rest : List Item} {h h' : H} {u : Result (List ℕ) Refusal} → Sound a → FillBuf rule a.session a.left h u s rest h' → Opened a h u s rest h'
+  opening : (a : State H) {s : Session} {rest : List Item} {h h' : H} {u : Result (List ℕ) Refusal} → Sound a → FillBuf rule a.session a.left h u s rest h' →
+      (us : List UnitMark) × (ws : List WindowMark) × Opening a h us ws u s rest h' × Opens rule (terms_of a) h a.session.window us ws u s.window
   opening a {h = h} {u = u} k (sessions.FillBuf.has_bytes e q) = ([], [], opening_none a h u k (rw q refl), rw q (law.had_bytes (some_bytes a.session.window k.long e).2))
   opening a {rest = rest} {h = h} {h' = h'} k (sessions.FillBuf.fills {place = place} {r' = r} e f q t) =
       let n = no_bytes a.session.window k.long e in
@@ -119,12 +118,9 @@ module _ {H : Type 0} (rule : Rule H) where
       rw none at (filling_accounts a k c h h [] [] (Err window_open) a.session a.left (refuses c window_open) a.session.window i e (opening_none a h (Err window_open) q tt) n)
 
   -- a call that fills, by its rule
-  abbrev FilledAccounts : State H → ℕ → Filling → H → Filled → Session → List Item → H → Type 0
-  FilledAccounts a k c h f s rest h' =
-      (us : List UnitMark) × (ws : List WindowMark) × Accounts rule a (handed k c) us ws (behind_filling a k h' s rest) × Lawful rule (terms_of a) (handed k c) (filled f) us ws
-
   pub filled_accounts : (a : State H) (k : ℕ) (c : Filling) {s : Session} {rest : List Item} {h h' : H} {f : Filled} → Sound a → a.inside ≡ true → handler_at k a.handlers ≡ Some h →
-      FillingCall rule c a.session a.left h f s rest h' → FilledAccounts a k c h f s rest h'
+      FillingCall rule c a.session a.left h f s rest h' →
+      (us : List UnitMark) × (ws : List WindowMark) × Accounts rule a (handed k c) us ws (behind_filling a k h' s rest) × Lawful rule (terms_of a) (handed k c) (filled f) us ws
   filled_accounts a k c {h = h} q i e (sessions.FillingCall.finds_window t r) = ([], seen a.session.window ∷ [], refused_accounts a k c h q i e, rw r (law.finds_window e t))
   filled_accounts a k c {rest = rest} {h} {h'} {f} q i e (sessions.FillingCall.fills_first {s' = s} {u = u} {w = w} t b n r) =
       let o = opening a q b in (
@@ -135,11 +131,9 @@ module _ {H : Type 0} (rule : Rule H) where
       )
 
   -- by the law fill_buf goes in one way only, and that is the rules'
-  abbrev OpenedSo : State H → H → List UnitMark → List WindowMark → Result (List ℕ) Refusal → Window → Type 0
-  OpenedSo a h us ws u w = (s : Session) × (rest : List Item) × (h' : H) × FillBuf rule a.session a.left h u s rest h' × Opening a h us ws u s rest h' × (w ≡ s.window)
-
   open_exact : (a : State H) {h : H} {w : Window} {us : List UnitMark} {ws : List WindowMark} {u : Result (List ℕ) Refusal} (vs : List UnitMark) (x : Course) →
-      Sound a → Opens rule (terms_of a) h a.session.window us ws u w → units.Lives (course a.session.reader a.left) (us ++ vs) x → OpenedSo a h us ws u w
+      Sound a → Opens rule (terms_of a) h a.session.window us ws u w → units.Lives (course a.session.reader a.left) (us ++ vs) x →
+      (s : Session) × (rest : List Item) × (h' : H) × FillBuf rule a.session a.left h u s rest h' × Opening a h us ws u s rest h' × (w ≡ s.window)
   open_exact a {h} vs x q (law.Opens.had_bytes n) g =
       (a.session, a.left, h, sessions.FillBuf.has_bytes (grind (arith, ap length n)) refl, opening_none a h (Ok a.session.window.unread) q refl, refl)
   open_exact a {h} {us = us} vs x q (law.Opens.took_lines {place = place} n by) g =
@@ -163,7 +157,7 @@ module _ {H : Type 0} (rule : Rule H) where
       let o = open_exact a vs x q by g in
       let n' : Uses c u o.0.window f w' = rw (← o.5) n in (
         behind_filling a k o.2 (with_window o.0 w') o.1,
-        Rattle.service_law.specs.Calls.Step.with_handler i e (sessions.FillingCall.fills_first t o.3 n' refl) refl,
+        calls.Step.with_handler i e (sessions.FillingCall.fills_first t o.3 n' refl) refl,
         filling_accounts a k c h o.2 us ws u o.0 o.1 f w' i e o.4 (window_used o.4.long o.4.bytes n'),
       )
 
@@ -171,6 +165,6 @@ module _ {H : Type 0} (rule : Rule H) where
       CalledSo a k c (refuses c window_open) [] (seen a.session.window ∷ [])
   refused_exact a k c h q i e t = (
     behind_filling a k h a.session a.left,
-    Rattle.service_law.specs.Calls.Step.with_handler i e (sessions.FillingCall.finds_window t refl) refl,
+    calls.Step.with_handler i e (sessions.FillingCall.finds_window t refl) refl,
     refused_accounts a k c h q i e,
   )
