@@ -117,15 +117,17 @@ read_after r items = after r (read_phase r.phase (verdict r items)) (shown (verd
 abbrev pub peek_after : Reader → List Item → Reader
 peek_after r items = after r (peek_phase r.phase (verdict r items)) (shown (verdict r items))
 
-pub record ReadLine (r : Reader) (items : List Item) (a : Option (Result Line Refusal)) (r' : Reader) (rest : List Item) : Type 0 where
-  pub answers : a ≡ answer (verdict r items)
-  pub becomes : r' ≡ read_after r items
-  pub leaves : rest ≡ left_in r.phase items
+-- what a reading call comes to: its answer, the state behind it, and what is left of the list
+pub record ComesTo {S : Type 0} (the_answer : Option (Result Line Refusal)) (state : S) (left : List Item) (a : Option (Result Line Refusal)) (s : S) (rest : List Item) : Type 0 where
+  pub answers : a ≡ the_answer
+  pub becomes : s ≡ state
+  pub leaves : rest ≡ left
 
-pub record PeekLine (r : Reader) (items : List Item) (a : Option (Result Line Refusal)) (r' : Reader) (rest : List Item) : Type 0 where
-  pub answers : a ≡ answer (verdict r items)
-  pub becomes : r' ≡ peek_after r items
-  pub leaves : rest ≡ left_in r.phase items
+abbrev pub ReadLine : Reader → List Item → Option (Result Line Refusal) → Reader → List Item → Type 0
+ReadLine r items a r' rest = ComesTo (answer (verdict r items)) (read_after r items) (left_in r.phase items) a r' rest
+
+abbrev pub PeekLine : Reader → List Item → Option (Result Line Refusal) → Reader → List Item → Type 0
+PeekLine r items a r' rest = ComesTo (answer (verdict r items)) (peek_after r items) (left_in r.phase items) a r' rest
 
 -- the byte at a position becomes the payload's last
 abbrev pub shortened : ℕ → ℕ → List ℕ → List ℕ

@@ -6,7 +6,7 @@ use Rattle.lines.specs.Format.{Line, payload, payload_of, text, Band, on, line_b
 use Rattle.links.specs.Items.{Item}
 use Rattle.rules.specs.Refusals.{error_line, handler_stops, marker_in_data, window_open, not_text, no_room}
 use Rattle.rules.specs.Handlers.{TextBand, progress, error, Rule}
-use Rattle.rules.specs.Readers.{Reader, Verdict, hand, fail, refuse, verdict, answer, left_in, read_after, peek_after, ReadLine, reset}
+use Rattle.rules.specs.Readers.{Reader, Verdict, hand, fail, refuse, verdict, answer, left_in, read_after, peek_after, ComesTo, ReadLine, reset}
 
 -- Places
 
@@ -112,10 +112,10 @@ abbrev pub data_line_answer : Bool → Option (Result Line Refusal) → Option (
 data_line_answer true a = a
 data_line_answer false a = Some (Err window_open)
 
-pub record ReadDataLine (s : Session) (items : List Item) (a : Option (Result Line Refusal)) (s' : Session) (rest : List Item) : Type 0 where
-  pub answers : a ≡ data_line_answer (s.window.cap == 0) (answer (verdict s.reader items))
-  pub becomes : s' ≡ (if s.window.cap == 0 then with_reader s (read_after s.reader items) else s)
-  pub leaves : rest ≡ (if s.window.cap == 0 then left_in s.reader.phase items else items)
+abbrev pub ReadDataLine : Session → List Item → Option (Result Line Refusal) → Session → List Item → Type 0
+ReadDataLine s items a s' rest =
+    ComesTo (data_line_answer (s.window.cap == 0) (answer (verdict s.reader items))) (if s.window.cap == 0 then with_reader s (read_after s.reader items) else s)
+    (if s.window.cap == 0 then left_in s.reader.phase items else items) a s' rest
 
 -- peek_data_line answers None for a marker, which stays held if it was no stop
 abbrev pub data_only : Line → Option (Result Line Refusal)
@@ -127,10 +127,8 @@ peeked_data (Some (Ok l)) = data_only l
 peeked_data (Some (Err e)) = Some (Err e)
 peeked_data None = None
 
-pub record PeekDataLine (s : Session) (items : List Item) (a : Option (Result Line Refusal)) (s' : Session) (rest : List Item) : Type 0 where
-  pub answers : a ≡ peeked_data (answer (verdict s.reader items))
-  pub becomes : s' ≡ with_reader s (peek_after s.reader items)
-  pub leaves : rest ≡ left_in s.reader.phase items
+abbrev pub PeekDataLine : Session → List Item → Option (Result Line Refusal) → Session → List Item → Type 0
+PeekDataLine s items a s' rest = ComesTo (peeked_data (answer (verdict s.reader items))) (with_reader s (peek_after s.reader items)) (left_in s.reader.phase items) a s' rest
 
 -- Filling
 

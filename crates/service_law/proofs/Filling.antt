@@ -37,9 +37,9 @@ module _ {H : Type 0} (rule : Rule H) (way : Way) where
       }
 
   -- one reading, as a read_line relates reader and source
-  one_by : {r r' : Reader} {items rest : List Item} {h h' : H} {place : Place} {a : Option (Result Line Refusal)} → place ≡ read_place way r items → ReadLine r items a r' rest → h' ≡ moved rule h place →
+  one_by : (r : Reader) (items : List Item) {r' : Reader} {rest : List Item} {h h' : H} {place : Place} {a : Option (Result Line Refusal)} → place ≡ read_place way r items → ReadLine r items a r' rest → h' ≡ moved rule h place →
       Reads rule r items h (read_marks way r items) (place_bytes place) r' rest h'
-  one_by {r} {items = items} {h = h} e c f = rw (c.becomes, c.leaves, f, e) (one r items h)
+  one_by r items {h = h} e c f = rw (c.becomes, c.leaves, f, e) (one r items h)
 
   gives_none : (h : H) (place : Place) → passes rule h place ≡ true → place_bytes place ≡ []
   gives_none h place e = grind arith
@@ -59,10 +59,10 @@ module _ {H : Type 0} (rule : Rule H) (way : Way) where
   -- a fill by the rules goes as the law says
   pub fill_reads : {r r' : Reader} {items rest : List Item} {h h' : H} {place : Place} → Fills rule way r items h place r' rest h' →
       (us : List UnitMark) × Reads rule r items h us (place_bytes place) r' rest h' × FillBy rule r.stops r.flag way h us place
-  fill_reads {r} {items = items} (sessions.Fills.ends e p c f) = (read_marks way r items, one_by e c f, law.FillBy.ends (rw e (read_by way r items)) p)
+  fill_reads {r} {items = items} (sessions.Fills.ends e p c f) = (read_marks way r items, one_by r items e c f, law.FillBy.ends (rw e (read_by way r items)) p)
   fill_reads {r} {items = items} {h = h} (sessions.Fills.goes_on {place = place} e p c f more) =
       let k = fill_reads more in
-      let o = one_by e c f in (
+      let o = one_by r items e c f in (
         read_marks way r items ++ k.0,
         both (rw (gives_none h place p) at o) k.1,
         law.FillBy.goes_on {us = read_marks way r items} (rw e (read_by way r items)) p (rw (← o.keeps_stops, ← o.keeps_flag, ← f) k.2),

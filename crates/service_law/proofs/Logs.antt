@@ -3,6 +3,7 @@ use Rattle.std.proofs.Common.{◌≡◌, ℕ, List, [], ◌∷◌, sym, refl, ap
 use Rattle.std.proofs.lemmas.Grind.{flat_map-append}
 use Rattle.rules.specs.Handlers.{Rule}
 use Rattle.rules.specs.Sessions.{Filling, no_window}
+use Rattle.service_law.specs.Along.{at_end, next}
 use Rattle.service_law.specs.Calls.{Call, plain, handed, Answer, State, new_service, Step, Runs}
 use Rattle.service_law.specs.Calls as calls
 use Rattle.service_law.specs.Marks.{UnitMark, bytes_given, WindowMark}
@@ -43,12 +44,12 @@ module _ {H : Type 0} (rule : Rule H) where
 
   -- any list of calls by the rules
   run_noted : {a b : State H} {cs : List (Call × Answer)} → Sound a → Runs rule a cs b → (log : List Entry) × (said log ≡ cs) × Logged rule a log b × AllLawful rule (terms_of a) log
-  run_noted q calls.Runs.at_end = ([], refl, record { lives = refl; goes = refl; opens = refl; terms = refl }, tt)
-  run_noted {a} {b} q (calls.Runs.next {b = c} {call = call} {ans = ans} s r) =
+  run_noted q at_end = ([], refl, record { lives = refl; goes = refl; opens = refl; terms = refl }, tt)
+  run_noted {a} {b} q (next {b = c} {m = call} s r) =
       let n = noted q s in
       let m = run_noted n.2.1 r in
-      let e : Entry = record { call = call; answer = ans; units = n.0; windows = n.1 } in
-      (e ∷ m.0, ap (λ x. (call, ans) ∷ x) m.1, logged_more a c b e m.0 n.2 m.2, (n.4, n.3, rw (← n.2.0.terms) m.3))
+      let e : Entry = record { call = call.0; answer = call.1; units = n.0; windows = n.1 } in
+      (e ∷ m.0, ap (λ x. call ∷ x) m.1, logged_more a c b e m.0 n.2 m.2, (n.4, n.3, rw (← n.2.0.terms) m.3))
 
   pub holds_of_every : LawHolds rule
   holds_of_every stops items hs cs b r =

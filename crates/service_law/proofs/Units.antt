@@ -1,13 +1,14 @@
 -- The course of a reader, its source and its view under marks, and what it says of the lists of units taken, reported and viewed.
-use Rattle.std.proofs.Common.{◌≡◌, ℕ, ◌<◌, List, [], ◌∷◌, ◌++◌, length, Ok, sym, refl, ap, ◌∙◌, subst, ap₂, arith}
+use Rattle.std.proofs.Common.{◌≡◌, ℕ, ◌<◌, List, [], ◌∷◌, ◌++◌, length, Ok, refl, ap, ◌∙◌, ap₂, arith}
 use Rattle.lines.specs.Format.{payload}
 use Rattle.links.specs.Items.{Item}
 use Rattle.links.specs.Cut.{first_unit, units, after}
 use Rattle.rules.specs.Readers.{View, Reader}
-use Rattle.service_law.specs.Marks.{Piece, Standing, free, has, UnitMark, took, shown, edited, reported, found, resumed, behind, released, UnitGoes, UnitsGo, at_end, next}
+use Rattle.service_law.specs.Along.{at_end, next}
+use Rattle.service_law.specs.Marks.{Piece, Standing, free, has, UnitMark, took, shown, edited, reported, found, resumed, behind, released, UnitGoes, UnitsGo}
 use Rattle.service_law.specs.Marks.{taken, reports_of, edit_unit, edits_on, as_edited, standing, held, standing_view, edited_view, view_at, view_behind, viewed}
 use Rattle.service_law.specs.Marks as life
-use Rattle.service_law.proofs.Chains.{Chain}
+use Rattle.service_law.proofs.Chains.{Chain, chain_goes}
 
 -- how a reader stands, what its source has left, and what its view shows
 pub record Course : Type 0 where
@@ -48,8 +49,7 @@ goes : (c : Course) (m : UnitMark) → May c m → UnitGoes c.stands m (stands_b
 goes c m h = grind (arith, life.takes, life.shows, life.edits, life.reports, life.finds, life.resumes)
 
 pub units_go : (c : Course) (us : List UnitMark) (d : Course) → Lives c us d → UnitsGo c.stands us d.stands
-units_go c [] d p = subst (λ x. UnitsGo c.stands [] x.stands) (sym p) at_end
-units_go c (m ∷ us) d p = next (goes c m p.0) (units_go (course_behind c m) us d p.1)
+units_go c us d p = chain_goes May course_behind UnitGoes (λ x. x.stands) goes us c d p
 
 -- the units taken are the first of the cut
 pub taken_first : (c : Course) (us : List UnitMark) (d : Course) → Lives c us d → (taken us ≡ units (length (taken us)) c.left) × (d.left ≡ after (length (taken us)) c.left)

@@ -1,11 +1,12 @@
 -- The life of windows, and what it says of their bytes.
-use Rattle.std.proofs.Common.{◌≡◌, ℕ, List, [], ◌∷◌, ◌++◌, length, drop, sym, refl, ap, ◌∙◌, subst, append_assoc, append-nil, arith}
+use Rattle.std.proofs.Common.{◌≡◌, ℕ, List, [], ◌∷◌, ◌++◌, length, drop, sym, refl, ap, ◌∙◌, append_assoc, append-nil, arith}
 use Rattle.std.proofs.Math.Seq.{drop-append_seam}
 use Rattle.std.specs.List.{flat_map}
 use Rattle.rules.specs.Sessions.{Window, no_window, window_at}
+use Rattle.service_law.specs.Along.{at_end, next}
 use Rattle.service_law.specs.Marks.{WindowMark, opened, seen, consumed, appended, gone, up_to, WindowGoes, WindowsGo, bytes_used, used}
 use Rattle.service_law.specs.Marks as life
-use Rattle.service_law.proofs.Chains.{Chain}
+use Rattle.service_law.proofs.Chains.{Chain, chain_goes}
 
 -- a mark fixes the window behind it, and tells what it was
 abbrev pub window_behind : Window → WindowMark → Window
@@ -29,8 +30,7 @@ goes : (w : Window) (m : WindowMark) → May w m → WindowGoes w m (window_behi
 goes w m h = grind (arith, life.opens, life.sees, life.consumes, life.appends, life.empties, life.goes)
 
 pub windows_go : (w : Window) (ws : List WindowMark) (x : Window) → Lives w ws x → WindowsGo w ws x
-windows_go w [] x p = subst (λ y. WindowsGo w [] y) (sym p) life.WindowsGo.at_end
-windows_go w (m ∷ ws) x p = life.WindowsGo.next (goes w m p.0) (windows_go (window_behind w m) ws x p.1)
+windows_go w ws x p = chain_goes May window_behind WindowGoes (λ w. w) goes ws w x p
 
 -- The bytes of the windows opened are used in order, and then there are the unread
 
@@ -54,5 +54,5 @@ may_be : {w x : Window} {m : WindowMark} → WindowGoes w m x → May w m × (x 
 may_be g = grind (arith, drop-append_seam)
 
 pub lives_of : {w x : Window} {ws : List WindowMark} → WindowsGo w ws x → Lives w ws x
-lives_of life.WindowsGo.at_end = refl
-lives_of (life.WindowsGo.next g p) = let m = may_be g in (m.0, rw (← m.1) (lives_of p))
+lives_of at_end = refl
+lives_of (next g p) = let m = may_be g in (m.0, rw (← m.1) (lives_of p))

@@ -8,6 +8,7 @@ use Rattle.rules.specs.Readers.{Stops, new_reader, verdict, answer, left_in, rea
 use Rattle.rules.specs.Readers as readers
 use Rattle.rules.specs.Sessions.{Session, with_reader, begun, data_line_answer, peeked_data, Filling, Filled, FillingCall}
 use Rattle.rules.specs.Sessions as sessions
+use Rattle.service_law.specs.Along.{Along}
 
 -- Calls
 
@@ -150,6 +151,5 @@ pub data Step {H : Type 0} (rule : Rule H) : State H → Call → Answer → Sta
       a.inside ≡ true → handler_at k a.handlers ≡ None → b ≡ a → Step rule a (handed k c) no_handler b
 
 -- calls with their answers, one behind the other
-pub data Runs {H : Type 0} (rule : Rule H) : State H → List (Call × Answer) → State H → Type 0 where
-  at_end : {a : State H} → Runs rule a [] a
-  next : {a b c : State H} {call : Call} {ans : Answer} {calls : List (Call × Answer)} → Step rule a call ans b → Runs rule b calls c → Runs rule a ((call, ans) ∷ calls) c
+abbrev pub Runs : {H : Type 0} → Rule H → State H → List (Call × Answer) → State H → Type 0
+Runs rule a calls b = Along (λ a c b. Step rule a c.0 c.1 b) a calls b

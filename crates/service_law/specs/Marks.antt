@@ -5,6 +5,7 @@ use Rattle.lines.specs.Format.{Line, payload, and_then, payload_of, message}
 use Rattle.rules.specs.Handlers.{Rule}
 use Rattle.rules.specs.Readers.{View, nothing, the_line, the_message, Phase, ready, holds, stopped, failed, shortened}
 use Rattle.rules.specs.Sessions.{Place, to_window, to_none, to_refusal, Window, no_window, window_at, moved}
+use Rattle.service_law.specs.Along.{Along}
 
 -- a unit of the cut: a line, or a refusal
 abbrev pub Piece : Type 0
@@ -55,9 +56,8 @@ pub data UnitGoes : Standing → UnitMark → Standing → Type 0 where
   finds : {a : Standing} → UnitGoes a (found a) a
   resumes : {a : Standing} → UnitGoes a resumed (released a)
 
-pub data UnitsGo : Standing → List UnitMark → Standing → Type 0 where
-  at_end : {a : Standing} → UnitsGo a [] a
-  next : {a b c : Standing} {m : UnitMark} {us : List UnitMark} → UnitGoes a m b → UnitsGo b us c → UnitsGo a (m ∷ us) c
+abbrev pub UnitsGo : Standing → List UnitMark → Standing → Type 0
+UnitsGo a us b = Along UnitGoes a us b
 
 -- the units that were taken, and those that were reported
 abbrev pub unit_taken : UnitMark → List Piece
@@ -185,9 +185,8 @@ pub data WindowGoes : Window → WindowMark → Window → Type 0 where
   empties : {w : Window} → w.unread ≡ [] → WindowGoes w emptied no_window
   goes : {w : Window} {u : List ℕ} → w.unread ≡ u → WindowGoes w (gone u) no_window
 
-pub data WindowsGo : Window → List WindowMark → Window → Type 0 where
-  at_end : {w : Window} → WindowsGo w [] w
-  next : {w w' w'' : Window} {m : WindowMark} {ws : List WindowMark} → WindowGoes w m w' → WindowsGo w' ws w'' → WindowsGo w (m ∷ ws) w''
+abbrev pub WindowsGo : Window → List WindowMark → Window → Type 0
+WindowsGo w ws x = Along WindowGoes w ws x
 
 -- the bytes that windows gave: consumed, appended, or gone with a session
 abbrev pub bytes_used : WindowMark → List ℕ
