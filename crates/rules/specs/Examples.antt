@@ -3,7 +3,7 @@ use Rattle.std.specs.Prelude.{◌≡◌, ℕ, true, false, List, map, Some, None
 use Rattle.lines.specs.Refusals.{Refusal, refused}
 use Rattle.lines.specs.Format.{Line, payload, flush}
 use Rattle.links.specs.Items.{Item, byte}
-use Rattle.rules.specs.Readers.{Stops, Reader, the_line, the_message, ready, new_reader, verdict, answer, shown, read_phase, peek_phase, left_in, after}
+use Rattle.rules.specs.Readers.{Stops, Reader, the_line, the_message, ready, new_reader, verdict, answer, left_in, read_after, peek_after}
 use Rattle.rules.specs.Readers.{reset, reset_with, fail_on_err_lines, edited_in, edit_answer, edit_after, replaced, stopped_at}
 
 -- Runs
@@ -29,22 +29,14 @@ next p = answer (verdict p.reader p.items)
 
 -- behind a read_line, and behind a peek_line
 abbrev pub read : Place → Place
-read p =
-    record {
-      reader = after p.reader (read_phase p.reader.phase (verdict p.reader p.items)) (shown (verdict p.reader p.items));
-      items = left_in p.reader.phase p.items;
-    }
+read p = record { reader = read_after p.reader p.items; items = left_in p.reader.phase p.items }
 
 abbrev pub peeked : Place → Place
-peeked p =
-    record {
-      reader = after p.reader (peek_phase p.reader.phase (verdict p.reader p.items)) (shown (verdict p.reader p.items));
-      items = left_in p.reader.phase p.items;
-    }
+peeked p = record { reader = peek_after p.reader p.items; items = left_in p.reader.phase p.items }
 
 -- behind a call that only the reader knows of
 abbrev pub then : (Reader → Reader) → Place → Place
-then f p = record { reader = f p.reader; items = p.items }
+then f p = record p { reader = f p.reader }
 
 -- behind an edit
 abbrev pub edited : ℕ → ℕ → Reader → Reader

@@ -1,5 +1,5 @@
 -- Handlers: who is told the texts of a session.
-use Rattle.std.specs.Prelude.{ℕ, ◌+◌, ◌/◌, ◌%◌, min, Bool, true, false, ◌||◌, List, ◌∷◌, ◌++◌, length, drop, nat_lt}
+use Rattle.std.specs.Prelude.{ℕ, ◌+◌, ◌/◌, ◌%◌, min, Bool, true, false, not, ◌||◌, List, ◌∷◌, ◌++◌, length, drop, nat_lt}
 
 -- a text comes on the band of progress or on that of errors
 pub data TextBand : Type 0 where
@@ -42,12 +42,8 @@ abbrev pub ceases : Logged → TextBand → List ℕ → Bool
 ceases m band t = m.ceased || (nat_lt 65535 (length t) || nat_lt (length m.beyond) (length (logged band t)))
 
 abbrev pub log_text : Bool → Logged → List ℕ → Logged
-log_text true m entry = record { written = m.written; beyond = m.beyond; ceased = true }
+log_text true m entry = record m { ceased = true }
 log_text false m entry = record { written = m.written ++ entry; beyond = drop (length entry) m.beyond; ceased = false }
 
-abbrev pub says_on : Bool → Bool
-says_on true = false
-says_on false = true
-
 abbrev pub log : Rule Logged
-log = record { moves = λ m band t. log_text (ceases m band t) m (logged band t); goes_on = λ m band t. says_on (ceases m band t) }
+log = record { moves = λ m band t. log_text (ceases m band t) m (logged band t); goes_on = λ m band t. not (ceases m band t) }

@@ -1,5 +1,5 @@
 -- The reader: its state, and what each of its calls does with it and with the list of its source.
-use Rattle.std.specs.Prelude.{◌≡◌, ℕ, Bool, true, false, cond, List, [], ◌∷◌, ◌++◌, length, take, Some, None, Ok, Err, Option, Result, nat_lt}
+use Rattle.std.specs.Prelude.{◌≡◌, ℕ, Bool, true, false, if◌then◌else◌, List, [], ◌∷◌, ◌++◌, length, take, Some, None, Ok, Err, Option, Result, nat_lt}
 use Rattle.lines.specs.Refusals.{Refusal}
 use Rattle.lines.specs.Format.{Line, payload, flush, delimiter, response_end, and_then, payload_of, message}
 use Rattle.links.specs.Items.{Item}
@@ -57,20 +57,18 @@ pub data Verdict : Type 0 where
 -- a line under the flag: one that has a message fails
 abbrev pub by_flag : Bool → Line → Option (List ℕ) → Verdict
 by_flag true l (Some m) = fail m
-by_flag true l None = hand l
-by_flag false l o = hand l
+by_flag flag l o = hand l
 
 -- a unit just taken is judged by the stop set, and then by the flag
 abbrev pub judged : Stops → Bool → Result Line Refusal → Verdict
 judged s flag (Err e) = refuse e
-judged s flag (Ok l) = cond (stops_at s l) (stop l) (by_flag flag l (and_then (payload_of l) message))
+judged s flag (Ok l) = if stops_at s l then stop l else by_flag flag l (and_then (payload_of l) message)
 
 -- a reader that is ready takes the next unit; a held line is handed on without a look at stop set or flag
 abbrev pub verdict_in : Stops → Bool → Phase → List Item → Verdict
 verdict_in s flag ready items = judged s flag (first_unit items).line
 verdict_in s flag (holds l) items = hand l
-verdict_in s flag (stopped l) items = idle
-verdict_in s flag failed items = idle
+verdict_in s flag p items = idle
 
 abbrev pub verdict : Reader → List Item → Verdict
 verdict r items = verdict_in r.stops r.flag r.phase items
@@ -78,33 +76,27 @@ verdict r items = verdict_in r.stops r.flag r.phase items
 -- only a reader that is ready takes something from its source
 abbrev pub left_in : Phase → List Item → List Item
 left_in ready items = (first_unit items).rest
-left_in (holds l) items = items
-left_in (stopped l) items = items
-left_in failed items = items
+left_in p items = items
 
 -- what a reading call answers
 abbrev pub answer : Verdict → Option (Result Line Refusal)
-answer idle = None
-answer (stop l) = None
 answer (hand l) = Some (Ok l)
 answer (fail m) = Some (Err error_line)
 answer (refuse e) = Some (Err e)
+answer v = None
 
 -- what the view then shows
 abbrev pub shown : Verdict → View
-shown idle = nothing
-shown (stop l) = nothing
 shown (hand l) = the_line l
 shown (fail m) = the_message m
-shown (refuse e) = nothing
+shown v = nothing
 
 -- the phase behind a read, and behind a peek, which keeps the line that it took
 abbrev pub read_phase : Phase → Verdict → Phase
 read_phase p idle = p
 read_phase p (stop l) = stopped l
-read_phase p (hand l) = ready
 read_phase p (fail m) = failed
-read_phase p (refuse e) = ready
+read_phase p v = ready
 
 abbrev pub peek_phase : Phase → Verdict → Phase
 peek_phase p idle = p
@@ -116,7 +108,7 @@ peek_phase p (refuse e) = ready
 -- Calls: each relates the reader and the list before, the answer, and the reader and the list after
 
 abbrev pub after : Reader → Phase → View → Reader
-after r p v = record { stops = r.stops; flag = r.flag; phase = p; view = v }
+after r p v = record r { phase = p; view = v }
 
 -- the reader behind a read_line, and behind a peek_line
 abbrev pub read_after : Reader → List Item → Reader
@@ -125,15 +117,17 @@ read_after r items = after r (read_phase r.phase (verdict r items)) (shown (verd
 abbrev pub peek_after : Reader → List Item → Reader
 peek_after r items = after r (peek_phase r.phase (verdict r items)) (shown (verdict r items))
 
-pub record ReadLine (r : Reader) (items : List Item) (a : Option (Result Line Refusal)) (r' : Reader) (rest : List Item) : Type 0 where
-  pub answers : a ≡ answer (verdict r items)
-  pub becomes : r' ≡ after r (read_phase r.phase (verdict r items)) (shown (verdict r items))
-  pub leaves : rest ≡ left_in r.phase items
+-- what a reading call comes to: its answer, the state behind it, and what is left of the list
+pub record ComesTo {S : Type 0} (the_answer : Option (Result Line Refusal)) (state : S) (left : List Item) (a : Option (Result Line Refusal)) (s : S) (rest : List Item) : Type 0 where
+  pub answers : a ≡ the_answer
+  pub becomes : s ≡ state
+  pub leaves : rest ≡ left
 
-pub record PeekLine (r : Reader) (items : List Item) (a : Option (Result Line Refusal)) (r' : Reader) (rest : List Item) : Type 0 where
-  pub answers : a ≡ answer (verdict r items)
-  pub becomes : r' ≡ after r (peek_phase r.phase (verdict r items)) (shown (verdict r items))
-  pub leaves : rest ≡ left_in r.phase items
+abbrev pub ReadLine : Reader → List Item → Option (Result Line Refusal) → Reader → List Item → Type 0
+ReadLine r items a r' rest = ComesTo (answer (verdict r items)) (read_after r items) (left_in r.phase items) a r' rest
+
+abbrev pub PeekLine : Reader → List Item → Option (Result Line Refusal) → Reader → List Item → Type 0
+PeekLine r items a r' rest = ComesTo (answer (verdict r items)) (peek_after r items) (left_in r.phase items) a r' rest
 
 -- the byte at a position becomes the payload's last
 abbrev pub shortened : ℕ → ℕ → List ℕ → List ℕ
@@ -141,16 +135,12 @@ shortened position b d = take position d ++ (b ∷ [])
 
 -- an edit of a line that is held: its line, or none where it is refused
 abbrev pub edited_line : ℕ → ℕ → Line → Option Line
-edited_line position b (payload d) = cond (nat_lt position (length d)) (Some (payload (shortened position b d))) None
-edited_line position b flush = None
-edited_line position b delimiter = None
-edited_line position b response_end = None
+edited_line position b (payload d) = if nat_lt position (length d) then Some (payload (shortened position b d)) else None
+edited_line position b l = None
 
 abbrev pub edited_in : ℕ → ℕ → Phase → Option Line
-edited_in position b ready = None
 edited_in position b (holds l) = edited_line position b l
-edited_in position b (stopped l) = None
-edited_in position b failed = None
+edited_in position b p = None
 
 -- the edited line is held and shown; a refused edit changes nothing
 abbrev pub edit_answer : Option Line → Result Unit Refusal
@@ -167,37 +157,31 @@ pub record ReplaceAndTruncate (r : Reader) (position b : ℕ) (a : Result Unit R
 
 -- a reset ends being done, and nothing else
 abbrev pub resumed : Phase → Phase
-resumed ready = ready
 resumed (holds l) = holds l
-resumed (stopped l) = ready
-resumed failed = ready
+resumed p = ready
 
 abbrev pub reset : Reader → Reader
 reset r = after r (resumed r.phase) r.view
 
 abbrev pub reset_with : Stops → Reader → Reader
-reset_with s r = record { stops = s; flag = r.flag; phase = resumed r.phase; view = r.view }
+reset_with s r = record r { stops = s; phase = resumed r.phase }
 
 abbrev pub fail_on_err_lines : Bool → Reader → Reader
-fail_on_err_lines on r = record { stops = r.stops; flag = on; phase = r.phase; view = r.view }
+fail_on_err_lines on r = record r { flag = on }
 
 -- the marker at which a reader is done, if any
 abbrev pub stopped_at : Phase → Option Line
-stopped_at ready = None
-stopped_at (holds l) = None
 stopped_at (stopped l) = Some l
-stopped_at failed = None
+stopped_at p = None
 
 -- a replaced reader is a new one, with the old stop set and view
 abbrev pub replaced : Reader → Reader
-replaced r = record { stops = r.stops; flag = false; phase = ready; view = r.view }
+replaced r = record r { flag = false; phase = ready }
 
 -- What holds of every reader: stopped_at names a marker of the stop set. That a reader which is done holds no line is in its phases.
 abbrev pub SoundIn : Stops → Phase → Type 0
-SoundIn s ready = Unit {0}
-SoundIn s (holds l) = Unit {0}
 SoundIn s (stopped l) = stops_at s l ≡ true
-SoundIn s failed = Unit {0}
+SoundIn s p = Unit {0}
 
 abbrev pub Sound : Reader → Type 0
 Sound r = SoundIn r.stops r.phase

@@ -1,12 +1,12 @@
 -- The session: where the band rule sends a line, the window, and what each call of a session does.
-use Rattle.std.specs.Prelude.{◌≡◌, ℕ, ◌+◌, ◌<◌, ◌≤◌, min, Bool, true, false, cond, List, [], ◌∷◌, ◌++◌, length, take, drop, Some, None, Ok, Err, Option, Result, ◌==◌, nat_lt}
+use Rattle.std.specs.Prelude.{◌≡◌, ℕ, ◌+◌, ◌<◌, ◌≤◌, min, Bool, true, false, not, ◌&&◌, if◌then◌else◌, List, [], ◌∷◌, ◌++◌, length, take, drop, Some, None, Ok, Err, Option, Result, ◌==◌, nat_lt}
 use Rattle.utf8.specs.Rfc3629.{Octets}
 use Rattle.lines.specs.Refusals.{Refusal}
-use Rattle.lines.specs.Format.{Line, payload, flush, delimiter, response_end, payload_of, text, Band, on, line_band}
+use Rattle.lines.specs.Format.{Line, payload, payload_of, text, Band, on, line_band}
 use Rattle.links.specs.Items.{Item}
 use Rattle.rules.specs.Refusals.{error_line, handler_stops, marker_in_data, window_open, not_text, no_room}
 use Rattle.rules.specs.Handlers.{TextBand, progress, error, Rule}
-use Rattle.rules.specs.Readers.{Reader, Verdict, idle, stop, hand, fail, refuse, verdict, answer, left_in, read_after, peek_after, ReadLine, reset}
+use Rattle.rules.specs.Readers.{Reader, Verdict, hand, fail, refuse, verdict, answer, left_in, read_after, peek_after, ComesTo, ReadLine, reset}
 
 -- Places
 
@@ -37,7 +37,7 @@ data_place (b ∷ d) = to_window 5 (b ∷ d)
 
 -- bands 2 and 3 are told as texts, also where nothing stands behind the band byte
 abbrev pub band_place : Result Band Refusal → Place
-band_place (Ok (on b d)) = cond (b == 1) (data_place d) (cond (b == 2) (to_handler progress (text d)) (to_handler error (text d)))
+band_place (Ok (on b d)) = if b == 1 then data_place d else if b == 2 then to_handler progress (text d) else to_handler error (text d)
 band_place (Err e) = to_refusal e
 
 -- without bands the whole payload is the window
@@ -53,11 +53,10 @@ band_rule as_data l = plain_place (payload_of l)
 
 -- where a reading call sends what it reports
 abbrev pub destination : Way → Verdict → Place
-destination way idle = to_none
-destination way (stop l) = to_none
 destination way (hand l) = band_rule way l
 destination way (fail m) = to_refusal error_line
 destination way (refuse e) = to_refusal e
+destination way v = to_none
 
 -- State
 
@@ -75,11 +74,11 @@ window_at offset d = record { pos = offset; cap = offset + length d; unread = d 
 
 -- consuming saturates
 abbrev pub consumed : ℕ → Window → Window
-consumed n w = record { pos = min (w.pos + n) w.cap; cap = w.cap; unread = drop n w.unread }
+consumed n w = record w { pos = min (w.pos + n) w.cap; unread = drop n w.unread }
 
 -- a window that was appended to a text: cap becomes 0, and pos keeps its value
 abbrev pub appended : Window → Window
-appended w = record { pos = w.pos; cap = 0; unread = [] }
+appended w = record w { cap = 0; unread = [] }
 
 pub record Session : Type 0 where
   pub reader : Reader
@@ -87,10 +86,10 @@ pub record Session : Type 0 where
   pub window : Window
 
 abbrev pub with_reader : Session → Reader → Session
-with_reader s r = record { reader = r; bands = s.bands; window = s.window }
+with_reader s r = record s { reader = r }
 
 abbrev pub with_window : Session → Window → Session
-with_window s w = record { reader = s.reader; bands = s.bands; window = w }
+with_window s w = record s { window = w }
 
 -- a session begins with bands on or off, and without a window
 abbrev pub begun : Bool → Reader → Session
@@ -106,54 +105,43 @@ abbrev pub consume : ℕ → Session → Session
 consume n s = with_window s (consumed n s.window)
 
 abbrev pub set_progress_handler : Bool → Session → Session
-set_progress_handler bands s = record { reader = s.reader; bands = bands; window = s.window }
+set_progress_handler bands s = record s { bands = bands }
 
 -- read_data_line hands on the whole line, and is refused while cap is not 0
 abbrev pub data_line_answer : Bool → Option (Result Line Refusal) → Option (Result Line Refusal)
 data_line_answer true a = a
 data_line_answer false a = Some (Err window_open)
 
-pub record ReadDataLine (s : Session) (items : List Item) (a : Option (Result Line Refusal)) (s' : Session) (rest : List Item) : Type 0 where
-  pub answers : a ≡ data_line_answer (s.window.cap == 0) (answer (verdict s.reader items))
-  pub becomes : s' ≡ cond (s.window.cap == 0) (with_reader s (read_after s.reader items)) s
-  pub leaves : rest ≡ cond (s.window.cap == 0) (left_in s.reader.phase items) items
+abbrev pub ReadDataLine : Session → List Item → Option (Result Line Refusal) → Session → List Item → Type 0
+ReadDataLine s items a s' rest =
+    ComesTo (data_line_answer (s.window.cap == 0) (answer (verdict s.reader items))) (if s.window.cap == 0 then with_reader s (read_after s.reader items) else s)
+    (if s.window.cap == 0 then left_in s.reader.phase items else items) a s' rest
 
 -- peek_data_line answers None for a marker, which stays held if it was no stop
 abbrev pub data_only : Line → Option (Result Line Refusal)
 data_only (payload d) = Some (Ok (payload d))
-data_only flush = None
-data_only delimiter = None
-data_only response_end = None
+data_only l = None
 
 abbrev pub peeked_data : Option (Result Line Refusal) → Option (Result Line Refusal)
 peeked_data (Some (Ok l)) = data_only l
 peeked_data (Some (Err e)) = Some (Err e)
 peeked_data None = None
 
-pub record PeekDataLine (s : Session) (items : List Item) (a : Option (Result Line Refusal)) (s' : Session) (rest : List Item) : Type 0 where
-  pub answers : a ≡ peeked_data (answer (verdict s.reader items))
-  pub becomes : s' ≡ with_reader s (peek_after s.reader items)
-  pub leaves : rest ≡ left_in s.reader.phase items
+abbrev pub PeekDataLine : Session → List Item → Option (Result Line Refusal) → Session → List Item → Type 0
+PeekDataLine s items a s' rest = ComesTo (peeked_data (answer (verdict s.reader items))) (with_reader s (peek_after s.reader items)) (left_in s.reader.phase items) a s' rest
 
 -- Filling
 
 -- what a fill goes on behind: a keepalive, and a text at which the handler goes on
 abbrev pub passes : {H : Type 0} → Rule H → H → Place → Bool
-passes rule h (to_caller l) = false
-passes rule h (to_window offset d) = false
 passes rule h (to_handler band t) = rule.goes_on h band t
-passes rule h to_none = false
-passes rule h (to_refusal e) = false
 passes rule h dropped = true
+passes rule h place = false
 
 -- a text moves the state of the handler once
 abbrev pub moved : {H : Type 0} → Rule H → H → Place → H
-moved rule h (to_caller l) = h
-moved rule h (to_window offset d) = h
 moved rule h (to_handler band t) = rule.moves h band t
-moved rule h to_none = h
-moved rule h (to_refusal e) = h
-moved rule h dropped = h
+moved rule h place = h
 
 -- lines are read, each going where the band rule sends it, up to the first that goes to a place which a fill does not pass
 pub data Fills {H : Type 0} (rule : Rule H) (way : Way) : Reader → List Item → H → Place → Reader → List Item → H → Type 0 where
@@ -167,21 +155,16 @@ pub data Fills {H : Type 0} (rule : Rule H) (way : Way) : Reader → List Item �
 
 -- what a fill answers, by the place at which it ended: the window's bytes, none at None, or a refusal
 abbrev pub fill_answer : Place → Result (List ℕ) Refusal
-fill_answer (to_caller l) = Ok []
 fill_answer (to_window offset d) = Ok d
 fill_answer (to_handler band t) = Err handler_stops
-fill_answer to_none = Ok []
 fill_answer (to_refusal e) = Err e
-fill_answer dropped = Ok []
+fill_answer place = Ok []
 
 -- the window behind it: at None both pos and cap become 0, and a refused fill leaves them
 abbrev pub fill_window : Window → Place → Window
-fill_window w (to_caller l) = w
 fill_window w (to_window offset d) = window_at offset d
-fill_window w (to_handler band t) = w
 fill_window w to_none = no_window
-fill_window w (to_refusal e) = w
-fill_window w dropped = w
+fill_window w place = w
 
 -- fill_buf shows the window while pos is below cap, and fills otherwise
 pub data FillBuf {H : Type 0} (rule : Rule H) : Session → List Item → H → Result (List ℕ) Refusal → Session → List Item → H → Type 0 where
@@ -189,7 +172,7 @@ pub data FillBuf {H : Type 0} (rule : Rule H) : Session → List Item → H → 
       nat_lt s.window.pos s.window.cap ≡ true → a ≡ Ok s.window.unread → FillBuf rule s items h a s items h
   fills : {s s' : Session} {items rest : List Item} {h h' : H} {a : Result (List ℕ) Refusal} {place : Place} {r' : Reader} →
       nat_lt s.window.pos s.window.cap ≡ false → Fills rule (way_of s.bands) s.reader items h place r' rest h' →
-      a ≡ fill_answer place → s' ≡ record { reader = r'; bands = s.bands; window = fill_window s.window place } →
+      a ≡ fill_answer place → s' ≡ record s { reader = r'; window = fill_window s.window place } →
       FillBuf rule s items h a s' rest h'
 
 -- Calls that fill
@@ -227,13 +210,12 @@ pub data Uses : Filling → Result (List ℕ) Refusal → Window → Filled → 
 
 -- whether a call is refused while cap is not 0
 abbrev pub wants_no_window : Filling → Bool
-wants_no_window fill_buf = false
-wants_no_window (read memory) = false
 wants_no_window (read_line_to_string room t) = true
+wants_no_window call = false
 
 -- whether the window stands against a call
 abbrev pub stands_open : Filling → Window → Bool
-stands_open call w = cond (wants_no_window call) (cond (w.cap == 0) false true) false
+stands_open call w = wants_no_window call && not (w.cap == 0)
 
 pub data FillingCall {H : Type 0} (rule : Rule H) (call : Filling) : Session → List Item → H → Filled → Session → List Item → H → Type 0 where
   finds_window : {s : Session} {items : List Item} {h : H} {a : Filled} →

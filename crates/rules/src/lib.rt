@@ -5,15 +5,12 @@ ghost use Rattle.rules.specs.Laws.{StaysSound};
 ghost use Rattle.rules.specs.Examples.{Examples};
 
 /// Carries the worked runs of a reader.
-pub fn reader_examples_hold() -> u8
+#[tactic(auto, unfolding(hex_digits::specs::Digits::length_field))]
+pub fn reader_examples_hold()
     ensures { Examples }
-{
-    0
-}
+{}
 
 /// Carries the theorem that a reader stops only at a marker of its stop set.
-pub fn readers_stay_sound() -> u8
+pub fn readers_stay_sound()
     ensures { StaysSound }
-{
-    0
-}
+{}

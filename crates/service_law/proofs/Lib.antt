@@ -1,3 +1,4 @@
+pub mod Chains
 pub mod Units
 pub mod Windows
 pub mod Reading

@@ -1,106 +1,58 @@
--- The life of windows: joined, taken apart, and what it says of the bytes.
-use Rattle.std.proofs.Common.{◌≡◌, ℕ, List, [], ◌∷◌, ◌++◌, length, drop, sym, refl, ap, ◌∙◌, subst, append_assoc, append-nil}
-use Rattle.std.proofs.lemmas.List.{drop_at}
+-- The life of windows, and what it says of their bytes.
+use Rattle.std.proofs.Common.{◌≡◌, ℕ, List, [], ◌∷◌, ◌++◌, length, drop, sym, refl, ap, ◌∙◌, append_assoc, append-nil, arith}
+use Rattle.std.proofs.Math.Seq.{drop-append_seam}
+use Rattle.std.specs.List.{flat_map}
 use Rattle.rules.specs.Sessions.{Window, no_window, window_at}
-use Rattle.service_law.specs.Marks.{WindowMark, opened, seen, consumed, appended, emptied, gone, up_to, WindowGoes, WindowsGo, used}
+use Rattle.service_law.specs.Along.{at_end, next}
+use Rattle.service_law.specs.Marks.{WindowMark, opened, seen, consumed, appended, gone, up_to, WindowGoes, WindowsGo, bytes_used, used}
 use Rattle.service_law.specs.Marks as life
+use Rattle.service_law.proofs.Chains.{Chain, chain_goes}
 
-pub windows_append : {w x y : Window} {us vs : List WindowMark} → WindowsGo w us x → WindowsGo x vs y → WindowsGo w (us ++ vs) y
-windows_append life.WindowsGo.at_end q = q
-windows_append (life.WindowsGo.next g p) q = life.WindowsGo.next g (windows_append p q)
+-- a mark fixes the window behind it, and tells what it was
+abbrev pub window_behind : Window → WindowMark → Window
+window_behind w (opened offset d) = window_at offset d
+window_behind w (seen x) = w
+window_behind w (consumed u) = up_to w (drop (length u) w.unread)
+window_behind w (appended u) = record w { cap = 0; unread = [] }
+window_behind w m = no_window
 
-pub used_append : (us vs : List WindowMark) → used (us ++ vs) ≡ used us ++ used vs
-used_append [] vs = refl
-used_append (opened offset d ∷ us) vs = used_append us vs
-used_append (seen w ∷ us) vs = used_append us vs
-used_append (consumed u ∷ us) vs = ap (λ x. u ++ x) (used_append us vs) ∙ sym (append_assoc u (used us) (used vs))
-used_append (appended u ∷ us) vs = ap (λ x. u ++ x) (used_append us vs) ∙ sym (append_assoc u (used us) (used vs))
-used_append (emptied ∷ us) vs = used_append us vs
-used_append (gone u ∷ us) vs = ap (λ x. u ++ x) (used_append us vs) ∙ sym (append_assoc u (used us) (used vs))
+abbrev pub May : Window → WindowMark → Type 0
+May w (seen x) = w ≡ x
+May w (consumed u) = w.unread ≡ u ++ drop (length u) w.unread
+May w (appended u) = w.unread ≡ u
+May w (gone u) = w.unread ≡ u
+May w m = w.unread ≡ []
 
--- A mark fixes the window behind it, and tells what it was
+abbrev pub Lives : Window → List WindowMark → Window → Type 0
+Lives w ws x = Chain May window_behind w ws x
 
-abbrev window_next : Window → WindowMark → Window
-window_next w (opened offset d) = window_at offset d
-window_next w (seen x) = w
-window_next w (consumed u) = up_to w (drop (length u) w.unread)
-window_next w (appended u) = record { pos = w.pos; cap = 0; unread = [] }
-window_next w emptied = no_window
-window_next w (gone u) = no_window
+goes : (w : Window) (m : WindowMark) → May w m → WindowGoes w m (window_behind w m)
+goes w m h = grind (arith, life.opens, life.sees, life.consumes, life.appends, life.empties, life.goes)
 
-next_is : {w x : Window} {m : WindowMark} → WindowGoes w m x → x ≡ window_next w m
-next_is (life.WindowGoes.opens h) = refl
-next_is life.WindowGoes.sees = refl
-next_is (life.WindowGoes.consumes {w} {u} {v} h) = ap (up_to w) (sym (ap (drop (length u)) h ∙ drop_at u v (length u) refl))
-next_is (life.WindowGoes.appends h) = refl
-next_is (life.WindowGoes.empties h) = refl
-next_is (life.WindowGoes.goes h) = refl
-
-tail : {w y : Window} {m : WindowMark} {ws : List WindowMark} → WindowsGo w (m ∷ ws) y → WindowsGo (window_next w m) ws y
-tail {y = y} {ws = ws} (life.WindowsGo.next g p) = subst (λ z. WindowsGo z ws y) (next_is g) p
-
-pub windows_split : {w x y : Window} {us : List WindowMark} (vs : List WindowMark) → WindowsGo w us x → WindowsGo w (us ++ vs) y → WindowsGo x vs y
-windows_split vs life.WindowsGo.at_end q = q
-windows_split {y = y} vs (life.WindowsGo.next {ws = us} g p) q = windows_split vs p (subst (λ z. WindowsGo z (us ++ vs) y) (sym (next_is g)) (tail q))
-
-windows_end : {w x : Window} → WindowsGo w [] x → w ≡ x
-windows_end life.WindowsGo.at_end = refl
-
-pub windows_fixed : {w x y : Window} {us : List WindowMark} → WindowsGo w us x → WindowsGo w us y → x ≡ y
-windows_fixed life.WindowsGo.at_end q = windows_end q
-windows_fixed {y = y} (life.WindowsGo.next {ws = us} g p) q = windows_fixed p (subst (λ z. WindowsGo z us y) (sym (next_is g)) (tail q))
-
-abbrev pub Start : Window → WindowMark → Type 0
-Start w (opened offset d) = w.unread ≡ []
-Start w (seen x) = w ≡ x
-Start w (consumed u) = Unit {0}
-Start w (appended u) = w.unread ≡ u
-Start w emptied = w.unread ≡ []
-Start w (gone u) = w.unread ≡ u
-
-started : {w x : Window} {m : WindowMark} → WindowGoes w m x → Start w m
-started (life.WindowGoes.opens h) = h
-started life.WindowGoes.sees = refl
-started (life.WindowGoes.consumes h) = tt
-started (life.WindowGoes.appends h) = h
-started (life.WindowGoes.empties h) = h
-started (life.WindowGoes.goes h) = h
-
-pub starts : {w y : Window} {m : WindowMark} {ws : List WindowMark} → WindowsGo w (m ∷ ws) y → Start w m
-starts (life.WindowsGo.next g p) = started g
+pub windows_go : (w : Window) (ws : List WindowMark) (x : Window) → Lives w ws x → WindowsGo w ws x
+windows_go w ws x p = chain_goes May window_behind WindowGoes (λ w. w) goes ws w x p
 
 -- The bytes of the windows opened are used in order, and then there are the unread
 
+abbrev pub bytes_opened : WindowMark → List ℕ
+bytes_opened (opened offset d) = d
+bytes_opened m = []
+
 abbrev pub opened_bytes : List WindowMark → List ℕ
-opened_bytes [] = []
-opened_bytes (opened offset d ∷ ws) = d ++ opened_bytes ws
-opened_bytes (seen w ∷ ws) = opened_bytes ws
-opened_bytes (consumed u ∷ ws) = opened_bytes ws
-opened_bytes (appended u ∷ ws) = opened_bytes ws
-opened_bytes (emptied ∷ ws) = opened_bytes ws
-opened_bytes (gone u ∷ ws) = opened_bytes ws
+opened_bytes ws = flat_map bytes_opened ws
 
-pub opened_append : (us vs : List WindowMark) → opened_bytes (us ++ vs) ≡ opened_bytes us ++ opened_bytes vs
-opened_append [] vs = refl
-opened_append (opened offset d ∷ us) vs = ap (λ x. d ++ x) (opened_append us vs) ∙ sym (append_assoc d (opened_bytes us) (opened_bytes vs))
-opened_append (seen w ∷ us) vs = opened_append us vs
-opened_append (consumed u ∷ us) vs = opened_append us vs
-opened_append (appended u ∷ us) vs = opened_append us vs
-opened_append (emptied ∷ us) vs = opened_append us vs
-opened_append (gone u ∷ us) vs = opened_append us vs
+one_more : (w : Window) (m : WindowMark) (o v k : List ℕ) → May w m → (window_behind w m).unread ++ o ≡ v ++ k → w.unread ++ (bytes_opened m ++ o) ≡ (bytes_used m ++ v) ++ k
+one_more w m o v k h e = grind (arith, append_assoc, append-nil)
 
--- bytes that go in front
-joined : (u v x y z : List ℕ) → v ++ x ≡ y ++ z → (u ++ v) ++ x ≡ (u ++ y) ++ z
-joined u v x y z e = append_assoc u v x ∙ (ap (λ l. u ++ l) e ∙ sym (append_assoc u y z))
+pub in_order : (w : Window) (ws : List WindowMark) (x : Window) → Lives w ws x → w.unread ++ opened_bytes ws ≡ used ws ++ x.unread
+in_order w [] x p = append-nil w.unread ∙ ap (λ y. y.unread) (sym p)
+in_order w (m ∷ ws) x p = one_more w m (opened_bytes ws) (used ws) x.unread p.0 (in_order (window_behind w m) ws x p.1)
 
-pub in_order : {w x : Window} {ws : List WindowMark} → WindowsGo w ws x → w.unread ++ opened_bytes ws ≡ used ws ++ x.unread
-in_order (life.WindowsGo.at_end {w}) = append-nil w.unread
-in_order (life.WindowsGo.next {ws = ws} (life.WindowGoes.opens {d = d} h) p) = ap (λ l. l ++ (d ++ opened_bytes ws)) h ∙ in_order p
-in_order (life.WindowsGo.next life.WindowGoes.sees p) = in_order p
-in_order (life.WindowsGo.next {w'' = x} {ws = ws} (life.WindowGoes.consumes {w} {u} {v} h) p) =
-    ap (λ l. l ++ opened_bytes ws) h ∙ joined u v (opened_bytes ws) (used ws) x.unread (in_order p)
-in_order (life.WindowsGo.next {w'' = x} {ws = ws} (life.WindowGoes.appends {w} {u} h) p) =
-    ap (λ l. l ++ opened_bytes ws) (h ∙ sym (append-nil u)) ∙ joined u [] (opened_bytes ws) (used ws) x.unread (in_order p)
-in_order (life.WindowsGo.next {ws = ws} (life.WindowGoes.empties h) p) = ap (λ l. l ++ opened_bytes ws) h ∙ in_order p
-in_order (life.WindowsGo.next {w'' = x} {ws = ws} (life.WindowGoes.goes {w} {u} h) p) =
-    ap (λ l. l ++ opened_bytes ws) (h ∙ sym (append-nil u)) ∙ joined u [] (opened_bytes ws) (used ws) x.unread (in_order p)
+-- The life of windows tells the chain
+
+may_be : {w x : Window} {m : WindowMark} → WindowGoes w m x → May w m × (x ≡ window_behind w m)
+may_be g = grind (arith, drop-append_seam)
+
+pub lives_of : {w x : Window} {ws : List WindowMark} → WindowsGo w ws x → Lives w ws x
+lives_of at_end = refl
+lives_of (next g p) = let m = may_be g in (m.0, rw (← m.1) (lives_of p))

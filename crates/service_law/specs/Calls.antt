@@ -1,5 +1,5 @@
 -- A service: a reader's making, and then any list of calls on one source, those of its sessions among them.
-use Rattle.std.specs.Prelude.{◌≡◌, ℕ, zero, suc, Bool, true, false, cond, List, [], ◌∷◌, Some, None, Option, Result, ◌==◌}
+use Rattle.std.specs.Prelude.{◌≡◌, ℕ, zero, suc, Bool, true, false, if◌then◌else◌, List, [], ◌∷◌, Some, None, Option, Result, ◌==◌, slice_get}
 use Rattle.lines.specs.Refusals.{Refusal}
 use Rattle.lines.specs.Format.{Line}
 use Rattle.links.specs.Items.{Item}
@@ -8,6 +8,7 @@ use Rattle.rules.specs.Readers.{Stops, new_reader, verdict, answer, left_in, rea
 use Rattle.rules.specs.Readers as readers
 use Rattle.rules.specs.Sessions.{Session, with_reader, begun, data_line_answer, peeked_data, Filling, Filled, FillingCall}
 use Rattle.rules.specs.Sessions as sessions
+use Rattle.service_law.specs.Along.{Along}
 
 -- Calls
 
@@ -71,26 +72,14 @@ May inside within = inside ≡ true
 May inside either = Unit {0}
 
 abbrev pub inside_after : Plain → Bool → Bool
-inside_after read_line inside = inside
-inside_after peek_line inside = inside
-inside_after (replace_and_truncate position b) inside = inside
-inside_after reset inside = inside
-inside_after (reset_with s) inside = inside
-inside_after (fail_on_err_lines on) inside = inside
-inside_after stopped_at inside = inside
 inside_after (begin on) inside = true
 inside_after leave inside = false
-inside_after (set_progress_handler on) inside = inside
-inside_after (consume n) inside = inside
-inside_after read_data_line inside = inside
-inside_after peek_data_line inside = inside
+inside_after c inside = inside
 
 -- Handlers by their index
 
 abbrev pub handler_at : {H : Type 0} → ℕ → List H → Option H
-handler_at k [] = None
-handler_at zero (h ∷ hs) = Some h
-handler_at (suc k) (h ∷ hs) = handler_at k hs
+handler_at k hs = slice_get hs k
 
 abbrev pub at_index : {H : Type 0} → ℕ → (H → H) → List H → List H
 at_index k f [] = []
@@ -116,16 +105,10 @@ abbrev pub answered : Plain → Session → List Item → Answer
 answered read_line s items = line (answer (verdict s.reader items))
 answered peek_line s items = line (answer (verdict s.reader items))
 answered (replace_and_truncate position b) s items = edit (edit_answer (edited_in position b s.reader.phase))
-answered reset s items = done
-answered (reset_with stops) s items = done
-answered (fail_on_err_lines on) s items = done
 answered stopped_at s items = marker (readers.stopped_at s.reader.phase)
-answered (begin on) s items = done
-answered leave s items = done
-answered (set_progress_handler on) s items = done
-answered (consume n) s items = done
 answered read_data_line s items = line (data_line_answer (s.window.cap == 0) (answer (verdict s.reader items)))
 answered peek_data_line s items = line (peeked_data (answer (verdict s.reader items)))
+answered c s items = done
 
 abbrev pub session_after : Plain → Session → List Item → Session
 session_after read_line s items = with_reader s (read_after s.reader items)
@@ -139,31 +122,22 @@ session_after (begin on) s items = begun on s.reader
 session_after leave s items = begun false (sessions.left s)
 session_after (set_progress_handler on) s items = sessions.set_progress_handler on s
 session_after (consume n) s items = sessions.consume n s
-session_after read_data_line s items = cond (s.window.cap == 0) (with_reader s (read_after s.reader items)) s
+session_after read_data_line s items = if s.window.cap == 0 then with_reader s (read_after s.reader items) else s
 session_after peek_data_line s items = with_reader s (peek_after s.reader items)
 
 abbrev pub left_after : Plain → Session → List Item → List Item
 left_after read_line s items = left_in s.reader.phase items
 left_after peek_line s items = left_in s.reader.phase items
-left_after (replace_and_truncate position b) s items = items
-left_after reset s items = items
-left_after (reset_with stops) s items = items
-left_after (fail_on_err_lines on) s items = items
-left_after stopped_at s items = items
-left_after (begin on) s items = items
-left_after leave s items = items
-left_after (set_progress_handler on) s items = items
-left_after (consume n) s items = items
-left_after read_data_line s items = cond (s.window.cap == 0) (left_in s.reader.phase items) items
+left_after read_data_line s items = if s.window.cap == 0 then left_in s.reader.phase items else items
 left_after peek_data_line s items = left_in s.reader.phase items
+left_after c s items = items
 
 abbrev pub after_plain : {H : Type 0} → Plain → State H → State H
 after_plain c a =
-    record {
+    record a {
       inside = inside_after c a.inside;
       session = session_after c a.session a.left;
       left = left_after c a.session a.left;
-      handlers = a.handlers;
     }
 
 -- One call leads from a state to a state. A call that fills is made with the handler that it names; one that names none does nothing.
@@ -177,6 +151,5 @@ pub data Step {H : Type 0} (rule : Rule H) : State H → Call → Answer → Sta
       a.inside ≡ true → handler_at k a.handlers ≡ None → b ≡ a → Step rule a (handed k c) no_handler b
 
 -- calls with their answers, one behind the other
-pub data Runs {H : Type 0} (rule : Rule H) : State H → List (Call × Answer) → State H → Type 0 where
-  at_end : {a : State H} → Runs rule a [] a
-  next : {a b c : State H} {call : Call} {ans : Answer} {calls : List (Call × Answer)} → Step rule a call ans b → Runs rule b calls c → Runs rule a ((call, ans) ∷ calls) c
+abbrev pub Runs : {H : Type 0} → Rule H → State H → List (Call × Answer) → State H → Type 0
+Runs rule a calls b = Along (λ a c b. Step rule a c.0 c.1 b) a calls b

@@ -1,16 +1,16 @@
 -- The law of a service: what holds of the log of every service, told by what befell units and windows.
-use Rattle.std.specs.Prelude.{◌≡◌, ℕ, ◌≤◌, Bool, true, false, List, [], ◌∷◌, ◌++◌, length, take, Some, None, Ok, Err, Option, Result, ◌==◌}
+use Rattle.std.specs.Prelude.{◌≡◌, ℕ, ◌≤◌, Bool, true, false, List, [], ◌∷◌, ◌++◌, length, take, map, flat_map, fold, Some, None, Ok, Err, Option, Result, ◌==◌}
 use Rattle.lines.specs.Refusals.{Refusal}
-use Rattle.lines.specs.Format.{Line, payload, flush, delimiter, response_end}
+use Rattle.lines.specs.Format.{Line, payload}
 use Rattle.links.specs.Items.{Item}
 use Rattle.links.specs.Cut.{units, after}
-use Rattle.rules.specs.Refusals.{error_line, window_open, not_held}
+use Rattle.rules.specs.Refusals.{window_open, not_held}
 use Rattle.rules.specs.Handlers.{Rule}
-use Rattle.rules.specs.Readers.{Stops, nothing, Verdict, idle, stop, hand, fail, refuse, judged, answer}
-use Rattle.rules.specs.Sessions.{Place, to_caller, to_window, to_handler, to_none, to_refusal, dropped, Way, whole, way_of, band_rule, destination, Window, no_window}
-use Rattle.rules.specs.Sessions.{passes, moved, fill_answer, fill_window, peeked_data, Filling, fill_buf, read, read_line_to_string, Filled, shows, counts, refuses, stands_open, Uses}
+use Rattle.rules.specs.Readers.{Stops, nothing, Verdict, hand, judged, answer}
+use Rattle.rules.specs.Sessions.{Place, to_caller, to_window, to_none, to_refusal, Way, whole, way_of, band_rule, destination, Window, no_window}
+use Rattle.rules.specs.Sessions.{passes, moved, fill_answer, fill_window, peeked_data, Filling, read, read_line_to_string, Filled, counts, refuses, stands_open, Uses}
 use Rattle.service_law.specs.Calls.{Plain, read_line, peek_line, replace_and_truncate, reset, reset_with, fail_on_err_lines, stopped_at, begin, leave, set_progress_handler, consume, read_data_line, peek_data_line}
-use Rattle.service_law.specs.Calls.{Call, plain, handed, Answer, done, line, edit, marker, filled, no_handler, side, May, inside_after, handler_at, at_index, State, new_service, Runs}
+use Rattle.service_law.specs.Calls.{Call, plain, handed, Answer, done, line, edit, marker, filled, no_handler, side, May, inside_after, handler_at, at_index, State, new_service, Step, Runs}
 use Rattle.service_law.specs.Marks.{Piece, Standing, free, has, UnitMark, took, shown, edited, reported, found, resumed, UnitsGo, taken, reports_of, as_edited, standing, held, viewed, given_to_windows, told}
 use Rattle.service_law.specs.Marks.{WindowMark, opened, seen, consumed, appended, emptied, gone, WindowsGo, used}
 use Rattle.service_law.specs.Marks as marks
@@ -25,16 +25,13 @@ pub record Entry : Type 0 where
   pub windows : List WindowMark
 
 abbrev pub said : List Entry → List (Call × Answer)
-said [] = []
-said (e ∷ log) = (e.call, e.answer) ∷ said log
+said log = map (λ e. (e.call, e.answer)) log
 
 abbrev pub unit_marks : List Entry → List UnitMark
-unit_marks [] = []
-unit_marks (e ∷ log) = e.units ++ unit_marks log
+unit_marks log = flat_map (λ e. e.units) log
 
 abbrev pub window_marks : List Entry → List WindowMark
-window_marks [] = []
-window_marks (e ∷ log) = e.windows ++ window_marks log
+window_marks log = flat_map (λ e. e.windows) log
 
 -- Terms: what the calls themselves choose, and what the handlers have become
 
@@ -46,60 +43,27 @@ pub record Terms (H : Type 0) : Type 0 where
   pub handlers : List H
 
 abbrev pub stops_after : Plain → Stops → Stops
-stops_after read_line s = s
-stops_after peek_line s = s
-stops_after (replace_and_truncate position b) s = s
-stops_after reset s = s
 stops_after (reset_with given) s = given
-stops_after (fail_on_err_lines on) s = s
-stops_after stopped_at s = s
-stops_after (begin on) s = s
-stops_after leave s = s
-stops_after (set_progress_handler on) s = s
-stops_after (consume n) s = s
-stops_after read_data_line s = s
-stops_after peek_data_line s = s
+stops_after c s = s
 
 abbrev pub flag_after : Plain → Bool → Bool
-flag_after read_line flag = flag
-flag_after peek_line flag = flag
-flag_after (replace_and_truncate position b) flag = flag
-flag_after reset flag = flag
-flag_after (reset_with s) flag = flag
 flag_after (fail_on_err_lines on) flag = on
-flag_after stopped_at flag = flag
-flag_after (begin on) flag = flag
-flag_after leave flag = flag
-flag_after (set_progress_handler on) flag = flag
-flag_after (consume n) flag = flag
-flag_after read_data_line flag = flag
-flag_after peek_data_line flag = flag
+flag_after c flag = flag
 
 abbrev pub bands_after : Plain → Bool → Bool
-bands_after read_line bands = bands
-bands_after peek_line bands = bands
-bands_after (replace_and_truncate position b) bands = bands
-bands_after reset bands = bands
-bands_after (reset_with s) bands = bands
-bands_after (fail_on_err_lines on) bands = bands
-bands_after stopped_at bands = bands
 bands_after (begin on) bands = on
 bands_after leave bands = false
 bands_after (set_progress_handler on) bands = on
-bands_after (consume n) bands = bands
-bands_after read_data_line bands = bands
-bands_after peek_data_line bands = bands
+bands_after c bands = bands
 
 -- a handler that a call was handed is moved by the texts that the call reported; no other one is
 abbrev pub terms_after : {H : Type 0} → Rule H → Terms H → Call → List UnitMark → Terms H
 terms_after rule g (plain c) us =
-    record { stops = stops_after c g.stops; flag = flag_after c g.flag; inside = inside_after c g.inside; bands = bands_after c g.bands; handlers = g.handlers }
-terms_after rule g (handed k c) us =
-    record { stops = g.stops; flag = g.flag; inside = g.inside; bands = g.bands; handlers = at_index k (λ h. told rule h us) g.handlers }
+    record g { stops = stops_after c g.stops; flag = flag_after c g.flag; inside = inside_after c g.inside; bands = bands_after c g.bands }
+terms_after rule g (handed k c) us = record g { handlers = at_index k (λ h. told rule h us) g.handlers }
 
 abbrev pub terms_behind : {H : Type 0} → Rule H → Terms H → List Entry → Terms H
-terms_behind rule g [] = g
-terms_behind rule g (e ∷ log) = terms_behind rule (terms_after rule g e.call e.units) log
+terms_behind rule g log = fold (λ g e. terms_after rule g e.call e.units) g log
 
 abbrev pub terms_of : {H : Type 0} → State H → Terms H
 terms_of a =
@@ -116,11 +80,8 @@ pub data ReadBy (s : Stops) (flag : Bool) (way : Way) : List UnitMark → Place 
 
 -- one peek_line: the same, but a line is shown, and stays held
 abbrev pub peeked : Piece → Verdict → UnitMark
-peeked u idle = reported u to_none
-peeked u (stop l) = reported u to_none
 peeked u (hand l) = shown (has (Ok l))
-peeked u (fail m) = reported u (to_refusal error_line)
-peeked u (refuse e) = reported u (to_refusal e)
+peeked u v = reported u (destination whole v)
 
 pub data PeekBy (s : Stops) (flag : Bool) : List UnitMark → Option (Result Line Refusal) → Type 0 where
   was_done : {m : Option Line} → PeekBy s flag (shown (marks.done m) ∷ []) None
@@ -130,27 +91,18 @@ pub data PeekBy (s : Stops) (flag : Bool) : List UnitMark → Option (Result Lin
 -- what a call answers that hands on whole lines
 abbrev pub answer_at : Place → Option (Result Line Refusal)
 answer_at (to_caller l) = Some (Ok l)
-answer_at (to_window offset d) = None
-answer_at (to_handler band t) = None
-answer_at to_none = None
 answer_at (to_refusal e) = Some (Err e)
-answer_at dropped = None
+answer_at place = None
 
 -- an edit is refused where no line is held, of a marker, and at a position past the payload
 abbrev pub NoEdit : Standing → ℕ → Type 0
-NoEdit free position = Unit {0}
 NoEdit (has (Ok (payload d))) position = length d ≤ position
-NoEdit (has (Ok flush)) position = Unit {0}
-NoEdit (has (Ok delimiter)) position = Unit {0}
-NoEdit (has (Ok response_end)) position = Unit {0}
-NoEdit (has (Err e)) position = Unit {0}
-NoEdit (marks.done m) position = Unit {0}
+NoEdit a position = Unit {0}
 
 -- the marker at which a reader is done, if any
 abbrev pub marker_of : Standing → Option Line
-marker_of free = None
-marker_of (has u) = None
 marker_of (marks.done m) = m
+marker_of a = None
 
 -- a fill: lines by read_line, up to the first that goes to a place which a fill does not pass; h is the state of the handler
 pub data FillBy {H : Type 0} (rule : Rule H) (s : Stops) (flag : Bool) (way : Way) : H → List UnitMark → Place → Type 0 where
@@ -160,12 +112,9 @@ pub data FillBy {H : Type 0} (rule : Rule H) (s : Stops) (flag : Bool) (way : Wa
 
 -- the window is opened by the report that went to it, and emptied by one that went to None
 abbrev pub window_mark : Place → List WindowMark
-window_mark (to_caller l) = []
 window_mark (to_window offset d) = opened offset d ∷ []
-window_mark (to_handler band t) = []
 window_mark to_none = emptied ∷ []
-window_mark (to_refusal e) = []
-window_mark dropped = []
+window_mark place = []
 
 -- fill_buf: the window w while bytes of it are unread, otherwise a fill
 pub data Opens {H : Type 0} (rule : Rule H) (g : Terms H) (h : H) : Window → List UnitMark → List WindowMark → Result (List ℕ) Refusal → Window → Type 0 where
@@ -175,13 +124,9 @@ pub data Opens {H : Type 0} (rule : Rule H) (g : Terms H) (h : H) : Window → L
 
 -- read consumes what fits; read_line_to_string appends all of the window, unless it is refused
 abbrev pub use_marks : Filling → Result (List ℕ) Refusal → Filled → List WindowMark
-use_marks fill_buf u f = []
 use_marks (read memory) (Ok u) f = consumed (take (length memory) u) ∷ []
-use_marks (read memory) (Err e) f = []
-use_marks (read_line_to_string room t) u (shows r) = []
-use_marks (read_line_to_string room t) u (counts (Err e) t') = []
 use_marks (read_line_to_string room t) (Ok u) (counts (Ok n) t') = appended u ∷ []
-use_marks (read_line_to_string room t) (Err e) (counts (Ok n) t') = []
+use_marks call u f = []
 
 pub data Lawful {H : Type 0} (rule : Rule H) (g : Terms H) : Call → Answer → List UnitMark → List WindowMark → Type 0 where
   reads : {us : List UnitMark} {place : Place} → ReadBy g.stops g.flag whole us place → Lawful rule g (plain read_line) (line (answer_at place)) us []
@@ -257,4 +202,4 @@ LawIsExact {H} rule = (stops : Stops) (items : List Item) (hs : List H) (log : L
 
 -- the calls are deterministic: from one state, the same calls have the same answers and lead to the same state
 abbrev pub CallsFixed : {H : Type 0} → Rule H → Type 0
-CallsFixed {H} rule = (a b c : State H) (call : Call) (x y : Answer) → Rattle.service_law.specs.Calls.Step rule a call x b → Rattle.service_law.specs.Calls.Step rule a call y c → (x ≡ y) × (b ≡ c)
+CallsFixed {H} rule = (a b c : State H) (call : Call) (x y : Answer) → Step rule a call x b → Step rule a call y c → (x ≡ y) × (b ≡ c)

@@ -1,3 +1,4 @@
+pub mod Along
 pub mod Calls
 pub mod Marks
 pub mod Law

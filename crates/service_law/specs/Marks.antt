@@ -1,10 +1,11 @@
 -- What befalls units and windows in the course of a service, and the short life of each.
-use Rattle.std.specs.Prelude.{◌≡◌, ℕ, ◌-◌, ◌<◌, cond, List, [], ◌∷◌, ◌++◌, length, Some, None, Ok, Err, Option, Result, ◌==◌}
+use Rattle.std.specs.Prelude.{◌≡◌, ℕ, ◌-◌, ◌<◌, if◌then◌else◌, List, [], ◌∷◌, ◌++◌, length, flat_map, fold, Some, None, Ok, Err, Option, Result, ◌==◌}
 use Rattle.lines.specs.Refusals.{Refusal, number_of}
-use Rattle.lines.specs.Format.{Line, payload, flush, delimiter, response_end, and_then, payload_of, message}
+use Rattle.lines.specs.Format.{Line, payload, and_then, payload_of, message}
 use Rattle.rules.specs.Handlers.{Rule}
 use Rattle.rules.specs.Readers.{View, nothing, the_line, the_message, Phase, ready, holds, stopped, failed, shortened}
-use Rattle.rules.specs.Sessions.{Place, to_caller, to_window, to_handler, to_none, to_refusal, dropped, Window, no_window, window_at, moved}
+use Rattle.rules.specs.Sessions.{Place, to_window, to_none, to_refusal, Window, no_window, window_at, moved}
+use Rattle.service_law.specs.Along.{Along}
 
 -- a unit of the cut: a line, or a refusal
 abbrev pub Piece : Type 0
@@ -34,21 +35,17 @@ line_in (Ok l) = Some l
 line_in (Err e) = None
 
 abbrev pub refused_behind : Piece → Refusal → Standing
-refused_behind (Ok l) e = cond (number_of e == 8) (done None) free
+refused_behind (Ok l) e = if number_of e == 8 then done None else free
 refused_behind (Err x) e = free
 
 abbrev pub behind : Piece → Place → Standing
-behind u (to_caller l) = free
-behind u (to_window offset d) = free
-behind u (to_handler band t) = free
 behind u to_none = done (line_in u)
 behind u (to_refusal e) = refused_behind u e
-behind u dropped = free
+behind u place = free
 
 abbrev pub released : Standing → Standing
-released free = free
-released (has u) = has u
 released (done m) = free
+released a = a
 
 -- the life of a unit: it is taken where none is held; shown and edited while it is held; and reported once
 pub data UnitGoes : Standing → UnitMark → Standing → Type 0 where
@@ -59,56 +56,42 @@ pub data UnitGoes : Standing → UnitMark → Standing → Type 0 where
   finds : {a : Standing} → UnitGoes a (found a) a
   resumes : {a : Standing} → UnitGoes a resumed (released a)
 
-pub data UnitsGo : Standing → List UnitMark → Standing → Type 0 where
-  at_end : {a : Standing} → UnitsGo a [] a
-  next : {a b c : Standing} {m : UnitMark} {us : List UnitMark} → UnitGoes a m b → UnitsGo b us c → UnitsGo a (m ∷ us) c
+abbrev pub UnitsGo : Standing → List UnitMark → Standing → Type 0
+UnitsGo a us b = Along UnitGoes a us b
 
 -- the units that were taken, and those that were reported
+abbrev pub unit_taken : UnitMark → List Piece
+unit_taken (took u) = u ∷ []
+unit_taken m = []
+
 abbrev pub taken : List UnitMark → List Piece
-taken [] = []
-taken (took u ∷ us) = u ∷ taken us
-taken (shown a ∷ us) = taken us
-taken (edited position b ∷ us) = taken us
-taken (reported u place ∷ us) = taken us
-taken (found a ∷ us) = taken us
-taken (resumed ∷ us) = taken us
+taken us = flat_map unit_taken us
+
+abbrev pub unit_reported : UnitMark → List Piece
+unit_reported (reported u place) = u ∷ []
+unit_reported m = []
 
 abbrev pub reports_of : List UnitMark → List Piece
-reports_of [] = []
-reports_of (took u ∷ us) = reports_of us
-reports_of (shown a ∷ us) = reports_of us
-reports_of (edited position b ∷ us) = reports_of us
-reports_of (reported u place ∷ us) = u ∷ reports_of us
-reports_of (found a ∷ us) = reports_of us
-reports_of (resumed ∷ us) = reports_of us
+reports_of us = flat_map unit_reported us
 
 -- a unit as the edits leave it
 abbrev pub edit_unit : ℕ → ℕ → Piece → Piece
 edit_unit position b (Ok (payload d)) = Ok (payload (shortened position b d))
-edit_unit position b (Ok flush) = Ok flush
-edit_unit position b (Ok delimiter) = Ok delimiter
-edit_unit position b (Ok response_end) = Ok response_end
-edit_unit position b (Err e) = Err e
+edit_unit position b u = u
 
 -- a unit as edited up to its report
 abbrev pub edits_on : Piece → List UnitMark → Piece
 edits_on u [] = u
 edits_on u (took v ∷ us) = u
-edits_on u (shown a ∷ us) = edits_on u us
 edits_on u (edited position b ∷ us) = edits_on (edit_unit position b u) us
 edits_on u (reported v place ∷ us) = u
-edits_on u (found a ∷ us) = edits_on u us
-edits_on u (resumed ∷ us) = edits_on u us
+edits_on u (m ∷ us) = edits_on u us
 
 -- the units that were taken, each as edited
 abbrev pub as_edited : List UnitMark → List Piece
 as_edited [] = []
 as_edited (took u ∷ us) = edits_on u us ∷ as_edited us
-as_edited (shown a ∷ us) = as_edited us
-as_edited (edited position b ∷ us) = as_edited us
-as_edited (reported u place ∷ us) = as_edited us
-as_edited (found a ∷ us) = as_edited us
-as_edited (resumed ∷ us) = as_edited us
+as_edited (m ∷ us) = as_edited us
 
 -- how a reader stands by its phase, and the line that it holds
 abbrev pub standing : Phase → Standing
@@ -118,10 +101,8 @@ standing (stopped l) = done (Some l)
 standing failed = done None
 
 abbrev pub held : Phase → List Piece
-held ready = []
 held (holds l) = Ok l ∷ []
-held (stopped l) = []
-held failed = []
+held p = []
 
 -- what the view shows: the held line; the line last reported; the message of an ERR line that was refused with 8; and nothing where
 -- that was no line, or went to None
@@ -134,63 +115,50 @@ line_view (Ok l) = the_line l
 line_view (Err e) = nothing
 
 abbrev pub refused_view : Piece → Refusal → View
-refused_view (Ok l) e = cond (number_of e == 8) (message_view (and_then (payload_of l) message)) (the_line l)
+refused_view (Ok l) e = if number_of e == 8 then message_view (and_then (payload_of l) message) else the_line l
 refused_view (Err x) e = nothing
 
 abbrev pub view_at : Piece → Place → View
-view_at u (to_caller l) = line_view u
-view_at u (to_window offset d) = line_view u
-view_at u (to_handler band t) = line_view u
 view_at u to_none = nothing
 view_at u (to_refusal e) = refused_view u e
-view_at u dropped = line_view u
+view_at u place = line_view u
 
 abbrev pub standing_view : Standing → View
-standing_view free = nothing
 standing_view (has u) = line_view u
-standing_view (done m) = nothing
+standing_view a = nothing
 
 -- an edit changes the line that is shown, since that is the held one
 abbrev pub edited_view : ℕ → ℕ → View → View
-edited_view position b nothing = nothing
 edited_view position b (the_line l) = line_view (edit_unit position b (Ok l))
-edited_view position b (the_message m) = the_message m
+edited_view position b v = v
+
+abbrev pub view_behind : View → UnitMark → View
+view_behind v (shown a) = standing_view a
+view_behind v (edited position b) = edited_view position b v
+view_behind v (reported u place) = view_at u place
+view_behind v m = v
 
 abbrev pub viewed : View → List UnitMark → View
-viewed v [] = v
-viewed v (took u ∷ us) = viewed v us
-viewed v (shown a ∷ us) = viewed (standing_view a) us
-viewed v (edited position b ∷ us) = viewed (edited_view position b v) us
-viewed v (reported u place ∷ us) = viewed (view_at u place) us
-viewed v (found a ∷ us) = viewed v us
-viewed v (resumed ∷ us) = viewed v us
+viewed v us = fold view_behind v us
 
 -- what the reports gave to windows, and how their texts move a handler, each once
 abbrev pub place_bytes : Place → List ℕ
-place_bytes (to_caller l) = []
 place_bytes (to_window offset d) = d
-place_bytes (to_handler band t) = []
-place_bytes to_none = []
-place_bytes (to_refusal e) = []
-place_bytes dropped = []
+place_bytes place = []
+
+abbrev pub bytes_given : UnitMark → List ℕ
+bytes_given (reported u place) = place_bytes place
+bytes_given m = []
 
 abbrev pub given_to_windows : List UnitMark → List ℕ
-given_to_windows [] = []
-given_to_windows (took u ∷ us) = given_to_windows us
-given_to_windows (shown a ∷ us) = given_to_windows us
-given_to_windows (edited position b ∷ us) = given_to_windows us
-given_to_windows (reported u place ∷ us) = place_bytes place ++ given_to_windows us
-given_to_windows (found a ∷ us) = given_to_windows us
-given_to_windows (resumed ∷ us) = given_to_windows us
+given_to_windows us = flat_map bytes_given us
+
+abbrev pub told_by : {H : Type 0} → Rule H → H → UnitMark → H
+told_by rule h (reported u place) = moved rule h place
+told_by rule h m = h
 
 abbrev pub told : {H : Type 0} → Rule H → H → List UnitMark → H
-told rule h [] = h
-told rule h (took u ∷ us) = told rule h us
-told rule h (shown a ∷ us) = told rule h us
-told rule h (edited position b ∷ us) = told rule h us
-told rule h (reported u place ∷ us) = told rule (moved rule h place) us
-told rule h (found a ∷ us) = told rule h us
-told rule h (resumed ∷ us) = told rule h us
+told rule h us = fold (told_by rule) h us
 
 -- Windows
 
@@ -206,27 +174,26 @@ pub data WindowMark : Type 0 where
 
 -- the window whose unread bytes are v, cap being where it was
 abbrev pub up_to : Window → List ℕ → Window
-up_to w v = record { pos = w.cap - length v; cap = w.cap; unread = v }
+up_to w v = record w { pos = w.cap - length v; unread = v }
 
 -- the life of a window: it opens where no byte is unread; its bytes are used in order, none twice
 pub data WindowGoes : Window → WindowMark → Window → Type 0 where
   opens : {w : Window} {offset : ℕ} {d : List ℕ} → w.unread ≡ [] → WindowGoes w (opened offset d) (window_at offset d)
   sees : {w : Window} → WindowGoes w (seen w) w
   consumes : {w : Window} {u v : List ℕ} → w.unread ≡ u ++ v → WindowGoes w (consumed u) (up_to w v)
-  appends : {w : Window} {u : List ℕ} → w.unread ≡ u → WindowGoes w (appended u) (record { pos = w.pos; cap = 0; unread = [] })
+  appends : {w : Window} {u : List ℕ} → w.unread ≡ u → WindowGoes w (appended u) (record w { cap = 0; unread = [] })
   empties : {w : Window} → w.unread ≡ [] → WindowGoes w emptied no_window
   goes : {w : Window} {u : List ℕ} → w.unread ≡ u → WindowGoes w (gone u) no_window
 
-pub data WindowsGo : Window → List WindowMark → Window → Type 0 where
-  at_end : {w : Window} → WindowsGo w [] w
-  next : {w w' w'' : Window} {m : WindowMark} {ws : List WindowMark} → WindowGoes w m w' → WindowsGo w' ws w'' → WindowsGo w (m ∷ ws) w''
+abbrev pub WindowsGo : Window → List WindowMark → Window → Type 0
+WindowsGo w ws x = Along WindowGoes w ws x
 
 -- the bytes that windows gave: consumed, appended, or gone with a session
+abbrev pub bytes_used : WindowMark → List ℕ
+bytes_used (consumed u) = u
+bytes_used (appended u) = u
+bytes_used (gone u) = u
+bytes_used m = []
+
 abbrev pub used : List WindowMark → List ℕ
-used [] = []
-used (opened offset d ∷ ws) = used ws
-used (seen w ∷ ws) = used ws
-used (consumed u ∷ ws) = u ++ used ws
-used (appended u ∷ ws) = u ++ used ws
-used (emptied ∷ ws) = used ws
-used (gone u ∷ ws) = u ++ used ws
+used ws = flat_map bytes_used ws

@@ -5,10 +5,9 @@ ghost use Rattle.rules.specs.Handlers.{quiet, strict, log};
 ghost use Rattle.service_law.specs.Law.{LawHolds};
 
 /// Carries the law, at each of the handlers: it holds of every service, after its making and after each call.
-pub fn service_law_holds() -> u8
+#[tactic(auto, using(crate::proofs::Logs::holds_of_every))]
+pub fn service_law_holds()
     ensures of_quiet { LawHolds quiet }
     ensures of_strict { LawHolds strict }
     ensures of_log { LawHolds log }
-{
-    0
-}
+{}
