@@ -2,7 +2,7 @@
 #![tactic(auto)]
 
 ghost use Rattle.rules.specs.Handlers.{quiet, strict, log};
-ghost use Rattle.service_law.specs.Law.{LawHolds};
+ghost use Rattle.service_law.specs.Law.{LawHolds, CallsFixed, RunsFixed};
 
 /// Carries the law, at each of the handlers: it holds of every service, after its making and after each call.
 #[tactic(auto, using(crate::proofs::Logs::holds_of_every))]
@@ -10,4 +10,18 @@ pub fn service_law_holds()
     ensures of_quiet { LawHolds quiet }
     ensures of_strict { LawHolds strict }
     ensures of_log { LawHolds log }
+{}
+
+/// Carries the theorem that the calls are deterministic, at each of the handlers.
+pub fn calls_are_fixed()
+    ensures of_quiet { CallsFixed quiet }
+    ensures of_strict { CallsFixed strict }
+    ensures of_log { CallsFixed log }
+{}
+
+/// Carries the same of lists of calls, at each of the handlers.
+pub fn runs_are_fixed()
+    ensures of_quiet { RunsFixed quiet }
+    ensures of_strict { RunsFixed strict }
+    ensures of_log { RunsFixed log }
 {}
