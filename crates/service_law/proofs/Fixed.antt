@@ -10,7 +10,7 @@ use Rattle.service_law.specs.Calls.{State, Call, Answer, handler_at, at_index, S
 use Rattle.service_law.specs.Calls as calls
 use Rattle.service_law.specs.Law.{CallsFixed, RunsFixed}
 
--- what a call does with the answer of fill_buf and its window
+-- what is done with the answer of fill_buf: text or not, with room or not, and never two of these
 uses_fixed : {call : Filling} {u v : Result (List ℕ) Refusal} {w x w' x' : Window} {f g : Filled} → u ≡ v → w ≡ x → Uses call u w f w' → Uses call v x g x' → (f ≡ g) × (w' ≡ x')
 uses_fixed e d sessions.Uses.refused_fill sessions.Uses.refused_fill = (cc, d)
 uses_fixed e d sessions.Uses.shows_window sessions.Uses.shows_window = (cc, d)
@@ -27,7 +27,7 @@ uses_fixed e d (sessions.Uses.appends o l) (sessions.Uses.appends p m) = (cc, cc
 uses_fixed e d p q = cc
 
 module _ {H : Type 0} (rule : Rule H) where
-  -- lines read up to a place
+  -- lines are read up to one place: the first that the fill does not pass
   fills_fixed : {way way' : Way} {r r' q q' : Reader} {items rest more left : List Item} {h h' k k' : H} {place last : Place} → way ≡ way' → r ≡ q → items ≡ more → h ≡ k →
       Fills rule way r items h place r' rest h' → Fills rule way' q more k last q' left k' → (place ≡ last) × (r' ≡ q') × (rest ≡ left) × (h' ≡ k')
   fills_fixed w e d f (sessions.Fills.ends p g c m) (sessions.Fills.ends p' g' c' m') = (cc, cc, cc, cc)
@@ -35,6 +35,7 @@ module _ {H : Type 0} (rule : Rule H) where
   fills_fixed w e d f (sessions.Fills.ends p g c m) (sessions.Fills.goes_on p' g' c' m' n') = cc
   fills_fixed w e d f (sessions.Fills.goes_on p g c m n) (sessions.Fills.ends p' g' c' m') = cc
 
+  -- either the window has bytes, or a fill is made
   fill_buf_fixed : {s s' t t' : Session} {items rest more left : List Item} {h h' k k' : H} {u v : Result (List ℕ) Refusal} → s ≡ t → items ≡ more → h ≡ k →
       FillBuf rule s items h u s' rest h' → FillBuf rule t more k v t' left k' → (u ≡ v) × (s' ≡ t') × (rest ≡ left) × (h' ≡ k')
   fill_buf_fixed e d f (sessions.FillBuf.has_bytes b u) (sessions.FillBuf.has_bytes b' u') = (cc, cc, cc, cc)
@@ -42,6 +43,7 @@ module _ {H : Type 0} (rule : Rule H) where
   fill_buf_fixed e d f (sessions.FillBuf.has_bytes b u) (sessions.FillBuf.fills b' p' u' r') = cc
   fill_buf_fixed e d f (sessions.FillBuf.fills b p u r) (sessions.FillBuf.has_bytes b' u') = cc
 
+  -- either the window stands against the call, or fill_buf comes first
   filling_fixed : {c : Filling} {s s' t t' : Session} {items rest more left : List Item} {h h' k k' : H} {u v : Filled} → s ≡ t → items ≡ more → h ≡ k →
       FillingCall rule c s items h u s' rest h' → FillingCall rule c t more k v t' left k' → (u ≡ v) × (s' ≡ t') × (rest ≡ left) × (h' ≡ k')
   filling_fixed e d f (sessions.FillingCall.finds_window b u) (sessions.FillingCall.finds_window b' u') = (cc, cc, cc, cc)
@@ -51,6 +53,7 @@ module _ {H : Type 0} (rule : Rule H) where
   filling_fixed e d f (sessions.FillingCall.finds_window b u) (sessions.FillingCall.fills_first b' p' u' r') = cc
   filling_fixed e d f (sessions.FillingCall.fills_first b p u r) (sessions.FillingCall.finds_window b' u') = cc
 
+  -- one call: an index names a handler, or none
   step_fixed : {a a' b b' : State H} {call : Call} {x y : Answer} → a ≡ a' → Step rule a call x b → Step rule a' call y b' → (x ≡ y) × (b ≡ b')
   step_fixed d (calls.Step.plainly m e f) (calls.Step.plainly m' e' f') = (cc, cc)
   step_fixed {a' = a} d (calls.Step.with_handler {k = k} i e p r) (calls.Step.with_handler i' e' p' r') =
@@ -63,6 +66,7 @@ module _ {H : Type 0} (rule : Rule H) where
   pub calls_fixed : CallsFixed rule
   calls_fixed a b c call x y p q = step_fixed refl p q
 
+  -- any list of calls
   run_fixed : {a a' b b' : State H} {xs ys : List (Call × Answer)} → a ≡ a' → map (λ x. x.0) xs ≡ map (λ y. y.0) ys → Runs rule a xs b → Runs rule a' ys b' → (xs ≡ ys) × (b ≡ b')
   run_fixed d e calls.Runs.at_end calls.Runs.at_end = (refl, d)
   run_fixed d e (calls.Runs.next {call = call} s r) (calls.Runs.next {call = call'} s' r') =

@@ -204,6 +204,7 @@ LawIsExact {H} rule = (stops : Stops) (items : List Item) (hs : List H) (log : L
 abbrev pub CallsFixed : {H : Type 0} → Rule H → Type 0
 CallsFixed {H} rule = (a b c : State H) (call : Call) (x y : Answer) → Step rule a call x b → Step rule a call y c → (x ≡ y) × (b ≡ c)
 
--- so are lists of calls: from one state, the same calls, one behind the other, have the same answers and lead to the same state
+-- so are lists of calls: from one state, the same calls in one order have the same answers and lead to the same state
 abbrev pub RunsFixed : {H : Type 0} → Rule H → Type 0
-RunsFixed {H} rule = (a b c : State H) (xs ys : List (Call × Answer)) → map (λ x. x.0) xs ≡ map (λ y. y.0) ys → Runs rule a xs b → Runs rule a ys c → (xs ≡ ys) × (b ≡ c)
+RunsFixed {H} rule = (a b c : State H) (xs ys : List (Call × Answer)) → map (λ x. x.0) xs ≡ map (λ y. y.0) ys →
+    Runs rule a xs b → Runs rule a ys c → (xs ≡ ys) × (b ≡ c)
