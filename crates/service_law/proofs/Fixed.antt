@@ -8,7 +8,12 @@ use Rattle.rules.specs.Sessions.{Place, Way, Window, Session, Fills, FillBuf, Fi
 use Rattle.rules.specs.Sessions as sessions
 use Rattle.service_law.specs.Calls.{State, Call, Answer, handler_at, at_index, Step, Runs}
 use Rattle.service_law.specs.Calls as calls
+use Rattle.service_law.specs.Along as along
 use Rattle.service_law.specs.Law.{CallsFixed, RunsFixed}
+
+-- pairs with the same parts
+same_pair : {X Y : Type 0} {p q : X × Y} → p.0 ≡ q.0 → p.1 ≡ q.1 → p ≡ q
+same_pair x y i = (x i, y i)
 
 -- what is done with the answer of fill_buf: text or not, with room or not, and never two of these
 uses_fixed : {call : Filling} {u v : Result (List ℕ) Refusal} {w x w' x' : Window} {f g : Filled} → u ≡ v → w ≡ x → Uses call u w f w' → Uses call v x g x' → (f ≡ g) × (w' ≡ x')
@@ -68,11 +73,12 @@ module _ {H : Type 0} (rule : Rule H) where
 
   -- any list of calls
   run_fixed : {a a' b b' : State H} {xs ys : List (Call × Answer)} → a ≡ a' → map (λ x. x.0) xs ≡ map (λ y. y.0) ys → Runs rule a xs b → Runs rule a' ys b' → (xs ≡ ys) × (b ≡ b')
-  run_fixed d e calls.Runs.at_end calls.Runs.at_end = (refl, d)
-  run_fixed d e (calls.Runs.next {call = call} s r) (calls.Runs.next {call = call'} s' r') =
-      let i : call ≡ call' = cc in
+  run_fixed d e along.Along.at_end along.Along.at_end = (refl, d)
+  run_fixed d e (along.Along.next {m = m} s r) (along.Along.next {m = m'} s' r') =
+      let i : m.0 ≡ m'.0 = cc in
       let j = step_fixed d s (rw (← i) at s') in
-      let k = run_fixed j.1 (cc) r r' in (cc, k.1)
+      let k = run_fixed j.1 (cc) r r' in
+      let same = same_pair i j.0 in (cc, k.1)
   run_fixed d e p q = cc
 
   pub runs_fixed : RunsFixed rule
