@@ -2,5 +2,6 @@ pub mod Refusals
 pub mod Readers
 pub mod Handlers
 pub mod Sessions
+pub mod Sending
 pub mod Laws
 pub mod Examples

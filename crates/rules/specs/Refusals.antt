@@ -1,5 +1,5 @@
--- The refusals of reader and sessions, by the numbers of docs/REFUSALS.md.
-use Rattle.std.specs.Prelude.{None}
+-- The refusals of reader, sessions and sending, by the numbers of docs/REFUSALS.md.
+use Rattle.std.specs.Prelude.{ℕ, Some, None}
 use Rattle.lines.specs.Refusals.{Refusal, refused}
 
 -- an ERR line while the flag is on; its message is shown by the view
@@ -29,3 +29,11 @@ no_room = refused 15 None
 -- an edit where no line is held, or at a position that is not below its payload's length
 abbrev pub not_held : Refusal
 not_held = refused 16 None
+
+-- prefix, data and suffix together exceed the limit of a payload, with their total
+abbrev pub exceeds : ℕ → Refusal
+exceeds total = refused 17 (Some total)
+
+-- there is no data to send
+abbrev pub no_data : Refusal
+no_data = refused 18 None

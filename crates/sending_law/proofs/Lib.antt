@@ -1,0 +1,4 @@
+mod Accepting
+mod Sendable
+mod Returning
+mod Holding
