@@ -200,7 +200,7 @@ abbrev pub LawIsExact : {H : Type 0} → Rule H → Type 0
 LawIsExact {H} rule = (stops : Stops) (items : List Item) (hs : List H) (log : List Entry) (b : State H) →
     Law rule stops items hs log b → Runs rule (new_service stops items hs) (said log) b
 
--- the calls are deterministic: from one state, the same calls have the same answers and lead to the same state
+-- the calls are deterministic: from one state, the same call has the same answer and leads to the same state
 abbrev pub CallsFixed : {H : Type 0} → Rule H → Type 0
 CallsFixed {H} rule = (a b c : State H) (call : Call) (x y : Answer) → Step rule a call x b → Step rule a call y c → (x ≡ y) × (b ≡ c)
 
