@@ -6,3 +6,4 @@ pub mod Filling
 pub mod Steps
 pub mod Openings
 pub mod Logs
+pub mod Exact
