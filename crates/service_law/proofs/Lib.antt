@@ -7,3 +7,4 @@ pub mod Steps
 pub mod Openings
 pub mod Logs
 pub mod Fixed
+pub mod Exact

@@ -31,7 +31,7 @@ module _ {H : Type 0} (rule : Rule H) where
         terms = q.terms ∙ ap (λ g. terms_behind rule g log) p.0.terms;
       }
 
-  unhanded : (a : State H) (k : ℕ) (c : Filling) → Sound a → Accounts rule a (handed k c) [] [] a
+  pub unhanded : (a : State H) (k : ℕ) (c : Filling) → Sound a → Accounts rule a (handed k c) [] [] a
   unhanded a k c q = (record { lives = refl; goes = refl; opens = refl; terms = ap (λ hs. record (terms_of a) { handlers = hs }) (sym (unmoved k a.handlers)) }, q)
 
   -- one call by the rules
