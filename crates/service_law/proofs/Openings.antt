@@ -103,7 +103,7 @@ module _ {H : Type 0} (rule : Rule H) where
       let m = same_at k (λ x. h') (λ x. told rule x us) h a.handlers e (sym r.tells) in (
         record {
           lives = r.lives;
-          goes = (refl, chain_append windows.May windows.window_behind ws (use_marks c u f) a.session.window s.window w o.goes n.goes);
+          goes = (refl, chain_append windows.MayCome windows.window_behind ws (use_marks c u f) a.session.window s.window w o.goes n.goes);
           opens = rw (flat_map-append bytes_opened ws (use_marks c u f), n.opens, append-nil) r.gives;
           terms = λ j. record { stops = r.keeps_stops j; flag = r.keeps_flag j; inside = sym i j; bands = o.keeps_bands j; handlers = m j };
         },
