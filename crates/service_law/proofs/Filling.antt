@@ -12,7 +12,7 @@ use Rattle.service_law.specs.Marks.{UnitMark, place_bytes, given_to_windows, tol
 use Rattle.service_law.specs.Law.{ReadBy, FillBy}
 use Rattle.service_law.specs.Law as law
 use Rattle.service_law.proofs.Chains.{chain_append, chain_behind}
-use Rattle.service_law.proofs.Units.{Course, course_behind, May, Lives, course}
+use Rattle.service_law.proofs.Units.{Course, course_behind, MayCome, Lives, course}
 use Rattle.service_law.proofs.Reading.{read_place, read_marks, read_lives, read_by, ShowsHeld, read_shows, read_exact}
 
 -- what lines that were read did to the reader and the handler, d being the bytes that they gave to windows
@@ -48,7 +48,7 @@ module _ {H : Type 0} (rule : Rule H) (way : Way) where
       Reads rule r items h us [] r' rest h' → Reads rule r' rest h' vs d r'' rest' h'' → Reads rule r items h (us ++ vs) d r'' rest' h''
   both {r} {r'} {r''} {items} {rest} {rest'} {us = us} {vs = vs} p q =
       record {
-        lives = chain_append May course_behind us vs (course r items) (course r' rest) (course r'' rest') p.lives q.lives;
+        lives = chain_append MayCome course_behind us vs (course r items) (course r' rest) (course r'' rest') p.lives q.lives;
         gives = rw (flat_map-append, p.gives) q.gives;
         tells = rw (fold-append, p.tells) q.tells;
         keeps_stops = q.keeps_stops ∙ p.keeps_stops;
@@ -84,5 +84,5 @@ module _ {H : Type 0} (rule : Rule H) (way : Way) where
       let g' : Lives (course r items) (us ++ (ws ++ vs)) x = rw append_assoc at g in
       let k = read_exact way r items us (ws ++ vs) place x (rw (es, ef) by) g' in
       let o : Reads rule r items h us (place_bytes place) (read_after r items) (left_in r.phase items) (moved rule h place) = rw (k.0, k.1) (one r items h) in
-      let m = fill_exact s flag (read_after r items) (left_in r.phase items) vs x es ef more (chain_behind May course_behind us (ws ++ vs) (course r items) (course (read_after r items) (left_in r.phase items)) x o.lives g') in
+      let m = fill_exact s flag (read_after r items) (left_in r.phase items) vs x es ef more (chain_behind MayCome course_behind us (ws ++ vs) (course r items) (course (read_after r items) (left_in r.phase items)) x o.lives g') in
       (m.0, m.1, m.2, sessions.Fills.goes_on k.1 e (record { answers = refl; becomes = refl; leaves = refl }) refl m.3, both (rw (gives_none h place e) at o) m.4)

@@ -25,8 +25,8 @@ module _ {H : Type 0} (rule : Rule H) where
   logged_more : (a b c : State H) (e : Entry) (log : List Entry) → Accounts rule a e.call e.units e.windows b → Logged rule b log c → Logged rule a (e ∷ log) c
   logged_more a b c e log p q =
       record {
-        lives = chain_append units.May units.course_behind e.units (unit_marks log) (course a.session.reader a.left) (course b.session.reader b.left) (course c.session.reader c.left) p.0.lives q.lives;
-        goes = chain_append windows.May windows.window_behind e.windows (window_marks log) a.session.window b.session.window c.session.window p.0.goes q.goes;
+        lives = chain_append units.MayCome units.course_behind e.units (unit_marks log) (course a.session.reader a.left) (course b.session.reader b.left) (course c.session.reader c.left) p.0.lives q.lives;
+        goes = chain_append windows.MayCome windows.window_behind e.windows (window_marks log) a.session.window b.session.window c.session.window p.0.goes q.goes;
         opens = rw (flat_map-append bytes_given e.units (unit_marks log), flat_map-append bytes_opened e.windows (window_marks log), p.0.opens, q.opens) refl;
         terms = q.terms ∙ ap (λ g. terms_behind rule g log) p.0.terms;
       }

@@ -24,7 +24,7 @@ use Rattle.service_law.proofs.Filling.{Reads, fill_reads, fill_exact}
 use Rattle.service_law.proofs.Steps.{Long, Sound, Accounts, consumed_fits, consumed_goes, consumed_long}
 
 -- a handler is moved, and no other one
-pub same_at : {H : Type 0} (k : ℕ) (f g : H → H) (h : H) (hs : List H) → handler_at k hs ≡ Some h → f h ≡ g h → at_index k f hs ≡ at_index k g hs
+same_at : {H : Type 0} (k : ℕ) (f g : H → H) (h : H) (hs : List H) → handler_at k hs ≡ Some h → f h ≡ g h → at_index k f hs ≡ at_index k g hs
 same_at k f g h [] e q = refl
 same_at zero f g h (x ∷ hs) e q = grind arith
 same_at (suc k) f g h (x ∷ hs) e q = ap (λ y. x ∷ y) (same_at k f g h hs e q)
@@ -92,7 +92,7 @@ module _ {H : Type 0} (rule : Rule H) where
       record { goes = rw (e, b, consumed_fits (length memory) w l) (consumed_goes (length memory) w l); long = consumed_long (length fits) w l; opens = refl }
   window_used l b n = grind arith
 
-  abbrev pub behind_filling : State H → ℕ → H → Session → List Item → State H
+  abbrev behind_filling : State H → ℕ → H → Session → List Item → State H
   behind_filling a k h' s rest = record { inside = true; session = s; left = rest; handlers = at_index k (λ x. h') a.handlers }
 
   filling_accounts : (a : State H) (k : ℕ) (c : Filling) (h h' : H) (us : List UnitMark) (ws : List WindowMark) (u : Result (List ℕ) Refusal) (s : Session) (rest : List Item) (f : Filled) (w : Window) →
@@ -103,7 +103,7 @@ module _ {H : Type 0} (rule : Rule H) where
       let m = same_at k (λ x. h') (λ x. told rule x us) h a.handlers e (sym r.tells) in (
         record {
           lives = r.lives;
-          goes = (refl, chain_append windows.May windows.window_behind ws (use_marks c u f) a.session.window s.window w o.goes n.goes);
+          goes = (refl, chain_append windows.MayCome windows.window_behind ws (use_marks c u f) a.session.window s.window w o.goes n.goes);
           opens = rw (flat_map-append bytes_opened ws (use_marks c u f), n.opens, append-nil) r.gives;
           terms = λ j. record { stops = r.keeps_stops j; flag = r.keeps_flag j; inside = sym i j; bands = o.keeps_bands j; handlers = m j };
         },

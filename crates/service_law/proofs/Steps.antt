@@ -59,7 +59,7 @@ edit_lawful rule g position b r = grind (arith, law.edits, law.edits_nothing)
 
 -- Windows
 
-pub take_own : (n : ℕ) (u : List ℕ) → (take (length (take n u)) u ≡ take n u) × (drop (length (take n u)) u ≡ drop n u)
+take_own : (n : ℕ) (u : List ℕ) → (take (length (take n u)) u ≡ take n u) × (drop (length (take n u)) u ≡ drop n u)
 take_own zero u = (refl, refl)
 take_own (suc n) [] = (refl, refl)
 take_own (suc n) (b ∷ u) = (ap (λ x. b ∷ x) (take_own n u).0, (take_own n u).1)

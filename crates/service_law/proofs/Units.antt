@@ -34,22 +34,22 @@ left_behind items m = items
 abbrev pub course_behind : Course → UnitMark → Course
 course_behind c m = record { stands = stands_behind c.stands m; left = left_behind c.left m; view = view_behind c.view m }
 
-abbrev pub May : Course → UnitMark → Type 0
-May c (took u) = (c.stands ≡ free) × (u ≡ (first_unit c.left).line)
-May c (shown a) = c.stands ≡ a
-May c (edited position b) = (d : List ℕ) × (c.stands ≡ has (Ok (payload d))) × (position < length d)
-May c (reported u place) = c.stands ≡ has u
-May c (found a) = c.stands ≡ a
-May c resumed = Unit {0}
+abbrev pub MayCome : Course → UnitMark → Type 0
+MayCome c (took u) = (c.stands ≡ free) × (u ≡ (first_unit c.left).line)
+MayCome c (shown a) = c.stands ≡ a
+MayCome c (edited position b) = (d : List ℕ) × (c.stands ≡ has (Ok (payload d))) × (position < length d)
+MayCome c (reported u place) = c.stands ≡ has u
+MayCome c (found a) = c.stands ≡ a
+MayCome c resumed = Unit {0}
 
 abbrev pub Lives : Course → List UnitMark → Course → Type 0
-Lives c us d = Chain May course_behind c us d
+Lives c us d = Chain MayCome course_behind c us d
 
-goes : (c : Course) (m : UnitMark) → May c m → UnitGoes c.stands m (stands_behind c.stands m)
+goes : (c : Course) (m : UnitMark) → MayCome c m → UnitGoes c.stands m (stands_behind c.stands m)
 goes c m h = grind (arith, life.takes, life.shows, life.edits, life.reports, life.finds, life.resumes)
 
 pub units_go : (c : Course) (us : List UnitMark) (d : Course) → Lives c us d → UnitsGo c.stands us d.stands
-units_go c us d p = chain_goes May course_behind UnitGoes (λ x. x.stands) goes us c d p
+units_go c us d p = chain_goes MayCome course_behind UnitGoes (λ x. x.stands) goes us c d p
 
 -- the units taken are the first of the cut
 pub taken_first : (c : Course) (us : List UnitMark) (d : Course) → Lives c us d → (taken us ≡ units (length (taken us)) c.left) × (d.left ≡ after (length (taken us)) c.left)
@@ -74,7 +74,7 @@ kept a = []
 none_more : (a : Standing) → kept a ≡ pending a [] ++ []
 none_more a = grind arith
 
-one_more : (c : Course) (m : UnitMark) (us : List UnitMark) (k : List Piece) → May c m → reports_of us ++ k ≡ pending (stands_behind c.stands m) us ++ as_edited us →
+one_more : (c : Course) (m : UnitMark) (us : List UnitMark) (k : List Piece) → MayCome c m → reports_of us ++ k ≡ pending (stands_behind c.stands m) us ++ as_edited us →
     reports_of (m ∷ us) ++ k ≡ pending c.stands (m ∷ us) ++ as_edited (m ∷ us)
 one_more c m us k h e = grind arith
 

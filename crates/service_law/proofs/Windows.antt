@@ -16,21 +16,21 @@ window_behind w (consumed u) = up_to w (drop (length u) w.unread)
 window_behind w (appended u) = record w { cap = 0; unread = [] }
 window_behind w m = no_window
 
-abbrev pub May : Window → WindowMark → Type 0
-May w (seen x) = w ≡ x
-May w (consumed u) = w.unread ≡ u ++ drop (length u) w.unread
-May w (appended u) = w.unread ≡ u
-May w (gone u) = w.unread ≡ u
-May w m = w.unread ≡ []
+abbrev pub MayCome : Window → WindowMark → Type 0
+MayCome w (seen x) = w ≡ x
+MayCome w (consumed u) = w.unread ≡ u ++ drop (length u) w.unread
+MayCome w (appended u) = w.unread ≡ u
+MayCome w (gone u) = w.unread ≡ u
+MayCome w m = w.unread ≡ []
 
 abbrev pub Lives : Window → List WindowMark → Window → Type 0
-Lives w ws x = Chain May window_behind w ws x
+Lives w ws x = Chain MayCome window_behind w ws x
 
-goes : (w : Window) (m : WindowMark) → May w m → WindowGoes w m (window_behind w m)
+goes : (w : Window) (m : WindowMark) → MayCome w m → WindowGoes w m (window_behind w m)
 goes w m h = grind (arith, life.opens, life.sees, life.consumes, life.appends, life.empties, life.goes)
 
 pub windows_go : (w : Window) (ws : List WindowMark) (x : Window) → Lives w ws x → WindowsGo w ws x
-windows_go w ws x p = chain_goes May window_behind WindowGoes (λ w. w) goes ws w x p
+windows_go w ws x p = chain_goes MayCome window_behind WindowGoes (λ w. w) goes ws w x p
 
 -- The bytes of the windows opened are used in order, and then there are the unread
 
@@ -41,7 +41,7 @@ bytes_opened m = []
 abbrev pub opened_bytes : List WindowMark → List ℕ
 opened_bytes ws = flat_map bytes_opened ws
 
-one_more : (w : Window) (m : WindowMark) (o v k : List ℕ) → May w m → (window_behind w m).unread ++ o ≡ v ++ k → w.unread ++ (bytes_opened m ++ o) ≡ (bytes_used m ++ v) ++ k
+one_more : (w : Window) (m : WindowMark) (o v k : List ℕ) → MayCome w m → (window_behind w m).unread ++ o ≡ v ++ k → w.unread ++ (bytes_opened m ++ o) ≡ (bytes_used m ++ v) ++ k
 one_more w m o v k h e = grind (arith, append_assoc, append-nil)
 
 pub in_order : (w : Window) (ws : List WindowMark) (x : Window) → Lives w ws x → w.unread ++ opened_bytes ws ≡ used ws ++ x.unread
@@ -50,7 +50,7 @@ in_order w (m ∷ ws) x p = one_more w m (opened_bytes ws) (used ws) x.unread p.
 
 -- The life of windows tells the chain
 
-may_be : {w x : Window} {m : WindowMark} → WindowGoes w m x → May w m × (x ≡ window_behind w m)
+may_be : {w x : Window} {m : WindowMark} → WindowGoes w m x → MayCome w m × (x ≡ window_behind w m)
 may_be g = grind (arith, drop-append_seam)
 
 pub lives_of : {w x : Window} {ws : List WindowMark} → WindowsGo w ws x → Lives w ws x
