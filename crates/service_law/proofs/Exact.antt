@@ -78,8 +78,8 @@ module _ {H : Type 0} (rule : Rule H) where
   ahead_more : (a b c : State H) (e : Entry) (log : List Entry) → Accounts rule a e.call e.units e.windows c → Ahead a (unit_marks (e ∷ log)) (window_marks (e ∷ log)) b → Ahead c (unit_marks log) (window_marks log) b
   ahead_more a b c e log o g =
       record {
-        lives = chain_behind units.May units.course_behind e.units (unit_marks log) (course a.session.reader a.left) (course c.session.reader c.left) (course b.session.reader b.left) o.0.lives g.lives;
-        goes = chain_behind windows.May windows.window_behind e.windows (window_marks log) a.session.window c.session.window b.session.window o.0.goes g.goes;
+        lives = chain_behind units.MayCome units.course_behind e.units (unit_marks log) (course a.session.reader a.left) (course c.session.reader c.left) (course b.session.reader b.left) o.0.lives g.lives;
+        goes = chain_behind windows.MayCome windows.window_behind e.windows (window_marks log) a.session.window c.session.window b.session.window o.0.goes g.goes;
       }
 
   run_exact : (log : List Entry) (a b : State H) → Sound a → AllLawful rule (terms_of a) log → Ahead a (unit_marks log) (window_marks log) b → terms_of b ≡ terms_behind rule (terms_of a) log → Runs rule a (said log) b
