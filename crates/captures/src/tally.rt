@@ -46,6 +46,7 @@ pub struct Tally {
 }
 
 /// Decodes a capture as far as it holds lines.
+#[tactic(auto, using(crate::proofs::Totals::begun, crate::proofs::Totals::walks))]
 pub fn tally_of(bytes: &[u8]) -> Tally
     ensures decodes { Decodes bytes.now result.decoded result.lines }
     ensures ends { Ends (drop result.decoded bytes.now) result.end }
