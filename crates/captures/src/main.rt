@@ -58,7 +58,7 @@ fn show_units(rt: &HostRuntime, name: &str, bytes: &[u8]) -> io::Result<()> {
         memory: LineMemory::new(heap)?,
     };
     let whole = capture.at_once();
-    let pieces = agreement(capture.is_whole_in_pieces(heap, whole)?);
+    let pieces = agreement(capture.same_in_pieces(heap, whole)?);
     let steps = interrupted(heap, bytes.len())?;
     let interrupted = agreement(capture.in_steps(steps.as_slice()) == whole);
     let Taken { lines, bytes, .. } = whole.taken;
@@ -85,7 +85,7 @@ impl Capture<'_> {
     }
 
     /// Whether they come to `whole` in pieces of every size.
-    fn is_whole_in_pieces(&mut self, heap: Global, whole: Units) -> Result<bool, AllocError> {
+    fn same_in_pieces(&mut self, heap: Global, whole: Units) -> Result<bool, AllocError> {
         for piece in 1..=LARGEST_PIECE {
             let steps = in_pieces(heap, self.bytes.len(), piece)?;
             if self.in_steps(steps.as_slice()) != whole {
