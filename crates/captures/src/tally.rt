@@ -23,7 +23,7 @@ pub struct Lines {
 }
 
 /// What stands behind the last line.
-// Kept: three cases, and a prefix that is refused is none of the two others.
+// Kept: it has three cases, so neither `Option` nor `Result` says it plainer.
 #[derive(Clone, Copy, Debug, PartialEq, Eq, Hash)]
 pub enum End {
     /// Nothing.
