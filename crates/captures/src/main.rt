@@ -53,31 +53,47 @@ fn main(rt: HostRuntime) -> io::Result<()> {
 
 fn show_units(rt: &HostRuntime, name: &str, bytes: &[u8]) -> io::Result<()> {
     let heap = rt.alloc();
-    let mut memory = LineMemory::new(heap)?;
-    let whole = units_of(&mut Memory::new(bytes), &mut memory);
-    let pieces = agreement(same_in_pieces(heap, bytes, &mut memory, whole)?);
+    let mut capture = Capture {
+        bytes,
+        memory: LineMemory::new(heap)?,
+    };
+    let whole = capture.at_once();
+    let pieces = agreement(capture.same_in_pieces(heap, whole)?);
     let steps = interrupted(heap, bytes.len())?;
-    let slow = units_of(&mut Trace::new(bytes, steps.as_slice()), &mut memory);
-    let interrupted = agreement(slow == whole);
+    let interrupted = agreement(capture.in_steps(steps.as_slice()) == whole);
     let Taken { lines, bytes, .. } = whole.taken;
     let refusal = whole.refusal.number;
     println!(rt; "{name:<26}  {bytes:>6}  {lines:>5}  {refusal:>7}  {pieces:<16}  {interrupted}")
 }
 
-/// Whether the capture comes to `whole` in pieces of every size.
-fn same_in_pieces(
-    heap: Global,
-    bytes: &[u8],
-    memory: &mut LineMemory,
-    whole: Units,
-) -> Result<bool, AllocError> {
-    for piece in 1..=LARGEST_PIECE {
-        let steps = in_pieces(heap, bytes.len(), piece)?;
-        if units_of(&mut Trace::new(bytes, steps.as_slice()), memory) != whole {
-            return Ok(false);
-        }
+/// A capture, with a memory for its lines.
+#[derive(Debug, Drop)]
+struct Capture<'a> {
+    bytes: &'a [u8],
+    memory: LineMemory,
+}
+
+impl Capture<'_> {
+    /// What its units come to from a memory.
+    fn at_once(&mut self) -> Units {
+        units_of(&mut Memory::new(self.bytes), &mut self.memory)
     }
-    Ok(true)
+
+    /// What its units come to in the steps of a trace.
+    fn in_steps(&mut self, steps: &[u8]) -> Units {
+        units_of(&mut Trace::new(self.bytes, steps), &mut self.memory)
+    }
+
+    /// Whether they come to `whole` in pieces of every size.
+    fn same_in_pieces(&mut self, heap: Global, whole: Units) -> Result<bool, AllocError> {
+        for piece in 1..=LARGEST_PIECE {
+            let steps = in_pieces(heap, self.bytes.len(), piece)?;
+            if self.in_steps(steps.as_slice()) != whole {
+                return Ok(false);
+            }
+        }
+        Ok(true)
+    }
 }
 
 // Kept: two words for a `bool`; a type with a `Display` of its own is longer.

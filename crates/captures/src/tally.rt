@@ -23,7 +23,7 @@ pub struct Lines {
 }
 
 /// What stands behind the last line.
-// Kept: three cases, and a prefix that is refused is none of the two others.
+// Kept: it has three cases, so neither `Option` nor `Result` says it plainer.
 #[derive(Clone, Copy, Debug, PartialEq, Eq, Hash)]
 pub enum End {
     /// Nothing.
@@ -46,6 +46,7 @@ pub struct Tally {
 }
 
 /// Decodes a capture as far as it holds lines.
+#[tactic(auto, using(crate::proofs::Totals::begun, crate::proofs::Totals::walks))]
 pub fn tally_of(bytes: &[u8]) -> Tally
     ensures decodes { Decodes bytes.now result.decoded result.lines }
     ensures ends { Ends (drop result.decoded bytes.now) result.end }

@@ -26,6 +26,7 @@ pub struct Units {
 }
 
 /// Takes units from `source` up to the first refusal.
+#[tactic(auto, using(crate::proofs::Shorter::shorter))]
 pub fn units_of<S: Source>(source: &mut S, memory: &mut LineMemory) -> Units {
     let mut taken = Taken::default();
     let refusal = 'units: loop {

@@ -71,3 +71,6 @@ no_more xs ps i h = rw drop_all (ap Some (append-nil xs))
 pub pairs_behind : (w : List ℕ) → 1 ≤ length w → get_or w 0 0 ≡ 104 → term w ≡ pairs (take (length w - 1) (drop 1 w))
 pairs_behind [] h e = absurd (omega arith)
 pairs_behind (c ∷ rest) h e = rw (e, take_rest)
+
+-- what the reading of pairs stands on
+pub ruleset reading = (odd, even, one_more, no_pair, no_byte, no_more)

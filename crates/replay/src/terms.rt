@@ -60,6 +60,7 @@ pub fn parse_number(word: &str) -> Result<u16, ScriptFault> {
 }
 
 /// The bytes of a word: none for `-`, or those that the digits behind `h` write.
+#[tactic(auto, using(crate::proofs::Pairs::pairs_behind))]
 pub fn parse_bytes(heap: Global, word: &str) -> Result<Vec<u8>, ScriptFault>
     ensures { MatchResult result (λ v. term word.now ≡ Some v.items) (NoBytes (term word.now ≡ None)) }
 {
@@ -71,6 +72,7 @@ pub fn parse_bytes(heap: Global, word: &str) -> Result<Vec<u8>, ScriptFault>
 }
 
 /// The bytes that pairs of hexadecimal digits write.
+#[tactic(auto, using(crate::proofs::Pairs::reading))]
 fn parse_pairs(heap: Global, digits: &[u8]) -> Result<Vec<u8>, ScriptFault>
     ensures { MatchResult result (λ v. pairs digits.now ≡ Some v.items) (NoBytes (pairs digits.now ≡ None)) }
 {

@@ -1,16 +1,8 @@
-use Rattle.std.proofs.Common.{sym, refl, rules}
+use Rattle.std.proofs.Common.{sym, rules}
 use Rattle.captures.specs.Tallies.{Ends}
-use Rattle.captures.proofs.Totals.{begun, walks, behind}
+use Rattle.captures.proofs.Totals.{behind}
 use Rattle.captures.proofs.tally.tally_of.Goals as goal
 use Rattle.captures.proofs.tally.tally_of.Goals.{then-is_empty, else-is_empty+in-Ok-Incomplete, else-is_empty+in-Err}
-
-pub lines-init : goal.lines-init
-lines-init c = begun _ _ (search rules)
-
-pub lines-preserved : goal.lines-preserved
-lines-preserved c =
-    let ensured = rw c.in-Ok-Complete.field-0-is at c.in-Ok-Complete.ensures in
-    walks c.args.bytes.now c.lines.rest.now _ c.lines.lines _ _ _ c.lines.invariant (sym ensured.is) ensured.within.0 ensured.within.1 c.counted-lines.ensures refl
 
 pub returns-clause-ends : goal.returns-clause-ends
 returns-clause-ends c =
