@@ -5,3 +5,4 @@ pub mod Sessions
 pub mod Sending
 pub mod Laws
 pub mod Examples
+pub mod SessionExamples

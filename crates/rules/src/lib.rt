@@ -3,11 +3,18 @@
 
 ghost use Rattle.rules.specs.Laws.{StaysSound};
 ghost use Rattle.rules.specs.Examples.{Examples};
+ghost use Rattle.rules.specs.SessionExamples.{SessionExamples};
 
 /// Carries the worked runs of a reader.
 #[tactic(auto, unfolding(hex_digits::specs::Digits::length_field))]
 pub fn reader_examples_hold()
     ensures { Examples }
+{}
+
+/// Carries the worked runs of a session.
+#[tactic(auto, unfolding(hex_digits::specs::Digits::length_field))]
+pub fn session_examples_hold()
+    ensures { SessionExamples }
 {}
 
 /// Carries the theorem that a reader stops only at a marker of its stop set.
