@@ -1,4 +1,4 @@
-use Rattle.std.proofs.Common.{◌≡◌, ℕ, ◌+◌, ◌≤◌, ◌<◌, true, false, List, [], ◌∷◌, length, Ok, refl, arith}
+use Rattle.std.proofs.Common.{◌≡◌, true, false, List, [], ◌∷◌, Ok, refl, arith}
 use Rattle.std.specs.Prelude.{nat_lt}
 use Rattle.hex_digits.specs.Digits.{length_field}
 use Rattle.utf8.specs.Rfc3629.{Octets, none, utf8_1}
@@ -43,38 +43,39 @@ returns c =
     record {
       first_window = filled refl refl (last refl) shows_window;
       still_shown = stands refl shows_window;
+      consumes_window = refl;
       second_window = filled refl refl (more refl (last refl)) shows_window;
       whole_payload = filled refl refl (last refl) shows_window;
-      empty_texts_counted = filled refl refl (more refl (more refl (last refl))) shows_window;
-      empty_texts_logged = filled refl refl (more refl (more refl (last refl))) shows_window;
+      counts_empty_texts = filled refl refl (more refl (more refl (last refl))) shows_window;
+      logs_empty_texts = filled refl refl (more refl (more refl (last refl))) shows_window;
       loses_newline = refl;
       loses_one = refl;
       strict_stops = filled refl refl (last refl) refused_fill;
       told_before = filled refl refl (last refl) refused_fill;
       strict_goes_on = filled refl refl (more refl (last refl)) shows_window;
-      logs_record = filled refl refl (more refl (last refl)) shows_window;
+      logs_text = filled refl refl (more refl (last refl)) shows_window;
       no_room_to_log = filled refl refl (last refl) refused_fill;
       logs_no_more = filled refl refl (last refl) refused_fill;
       marker_on_bands = filled refl refl (last refl) refused_fill;
       marker_in_data = filled refl refl (last refl) refused_fill;
       band_four = filled refl refl (last refl) refused_fill;
-      line_refused = record { answers = refl; becomes = refl; leaves = refl };
-      refused_at_end = record { answers = refl; becomes = refl; leaves = refl };
-      text_refused = finds_window refl refl;
+      refuses_line = record { answers = refl; becomes = refl; leaves = refl };
+      refuses_at_end = record { answers = refl; becomes = refl; leaves = refl };
+      refuses_text = finds_window refl refl;
       fill_meets_none = filled refl refl (last refl) shows_window;
-      none_behind = record { answers = refl; becomes = refl; leaves = refl };
-      read_behind_reset = record { answers = refl; becomes = refl; leaves = refl };
+      none_then = record { answers = refl; becomes = refl; leaves = refl };
+      line_then = record { answers = refl; becomes = refl; leaves = refl };
       no_text = filled refl refl (last refl) (finds_no_text no_text_255);
       no_room = filled refl refl (last refl) (finds_no_room (utf8_1 97 [] (omega arith, omega arith) none) (omega arith));
       appends_window = filled refl refl (last refl) (appends (utf8_1 97 [] (omega arith, omega arith) none) (omega arith));
-      consume_behind = refl;
+      consume_then = refl;
       consume_saturates = refl;
       reads_to_front = filled refl refl (last refl) (copies refl);
       reads_no_bytes = filled refl refl (last refl) (copies refl);
       peeks_at_marker = record { answers = refl; becomes = refl; leaves = refl };
       reads_marker = record { answers = refl; becomes = refl; leaves = refl };
       damage = filled refl refl (last refl) refused_fill;
-      read_behind_damage = record { answers = refl; becomes = refl; leaves = refl };
-      reader_reset = refl;
+      line_behind_damage = record { answers = refl; becomes = refl; leaves = refl };
+      resets_reader = refl;
       unread_gone = filled refl refl (last refl) shows_window;
     }
