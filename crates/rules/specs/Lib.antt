@@ -6,3 +6,4 @@ pub mod Sending
 pub mod Laws
 pub mod Examples
 pub mod SessionExamples
+pub mod SendingExamples
