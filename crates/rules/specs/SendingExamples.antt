@@ -5,8 +5,8 @@ use Rattle.lines.specs.Meaning.{channel_of}
 use Rattle.lines.specs.Refusals.{refused}
 use Rattle.lines.specs.Format.{payload, flush, delimiter, response_end, framed}
 use Rattle.links.specs.Slots.{Slot, place, fails}
-use Rattle.rules.specs.Sending.{Encoding, flush_line, delimiter_line, response_end_line, data_line, text_line, error_line, band_line, line_to_send, Mode, binary, text}
-use Rattle.rules.specs.Sending.{encode, new_writer, enable, write, counts, done, no_writer, Sender, Sends}
+use Rattle.rules.specs.Sending.{flush_line, delimiter_line, response_end_line, data_line, text_line, error_line, band_line, line_to_send, Mode, binary, text}
+use Rattle.rules.specs.Sending.{encode, new_writer, enable, write, counts, done, Sender, Sends}
 
 -- Runs
 
