@@ -3,7 +3,7 @@ use Rattle.std.specs.Prelude.{◌≡◌, ℕ, true, false, List, [], ◌∷◌, 
 use Rattle.lines.specs.Refusals.{Refusal, refused}
 use Rattle.lines.specs.Format.{Line, payload, flush, delimiter}
 use Rattle.links.specs.Items.{Item, byte}
-use Rattle.rules.specs.Handlers.{progress, error, Rule, quiet, strict, Logged, log}
+use Rattle.rules.specs.Handlers.{TextBand, progress, error, Rule, quiet, strict, Logged, log}
 use Rattle.rules.specs.Readers.{Phase, ready, holds, stopped, View, nothing, the_line, new_reader, after, reset_with}
 use Rattle.rules.specs.Sessions.{to_handler, by_bands, band_rule, Window, no_window, window_at, consumed, Session, with_reader, with_window, begun, left}
 use Rattle.rules.specs.Sessions.{consume, set_progress_handler, ReadDataLine, PeekDataLine, Filling, fill_buf, read, read_line_to_string, Filled, shows, counts, FillingCall}
@@ -87,12 +87,12 @@ resumed p = then (λ s. with_reader s (reset_with at_flush_only s.reader)) p
 abbrev pub counting : Rule ℕ
 counting = record { moves = quiet.moves; goes_on = λ n band t. strict.goes_on tt band t }
 
--- the memory of a log: written, and free places behind it; and one that ceased at its beginning
+-- the memory of a log: written, and free places behind it; and of one that ceased
 abbrev pub memory : List ℕ → List ℕ → Logged
 memory written free = record { written = written; beyond = free; ceased = false }
 
-abbrev pub ceased_in : List ℕ → Logged
-ceased_in free = record { written = []; beyond = free; ceased = true }
+abbrev pub ceased_in : List ℕ → List ℕ → Logged
+ceased_in written free = record (memory written free) { ceased = true }
 
 pub record SessionExamples : Type 0 where
   -- a window is shown while it has unread bytes; a keepalive between two windows is passed over
@@ -113,8 +113,10 @@ pub record SessionExamples : Type 0 where
   pub strict_goes_on : Fills strict (from (codes "0006\u{2}x0006\u{1}a")) tt (Ok (codes "a")) (opened (codes "a") []) tt
   -- a log writes band byte, length and text; what does not fit is not written, nor anything after it
   pub logs_text : Fills log (from (codes "0006\u{2}x0006\u{1}a")) (memory [] (codes ".....")) (Ok (codes "a")) (opened (codes "a") []) (memory (codes "\u{2}\0\u{1}x") (codes "."))
-  pub no_room_to_log : Fills log (from (codes "0006\u{3}x0005\u{2}")) (memory [] (codes "...")) (Err (refused 11 None)) (behind (codes "\u{3}x") no_window (codes "0005\u{2}")) (ceased_in (codes "..."))
-  pub logs_no_more : Fills log (from (codes "0005\u{2}0005b")) (ceased_in (codes "...")) (Err (refused 11 None)) (behind (codes "\u{2}") no_window (codes "0005b")) (ceased_in (codes "..."))
+  pub no_room_to_log : Fills log (from (codes "0006\u{3}x0005\u{2}")) (memory (codes "\u{2}\0\0") (codes "...")) (Err (refused 11 None)) (behind (codes "\u{3}x") no_window (codes "0005\u{2}")) (ceased_in (codes "\u{2}\0\0") (codes "..."))
+  pub logs_no_more : Fills log (from (codes "0005\u{2}0005b")) (ceased_in (codes "\u{2}\0\0") (codes "...")) (Err (refused 11 None)) (behind (codes "\u{2}") no_window (codes "0005b")) (ceased_in (codes "\u{2}\0\0") (codes "..."))
+  pub stays_as_it_is : (written free : List ℕ) (band : TextBand) (t : List ℕ) → log.moves (ceased_in written free) band t ≡ ceased_in written free
+  pub stops_ever_after : (written free : List ℕ) (band : TextBand) (t : List ℕ) → log.goes_on (ceased_in written free) band t ≡ false
   -- a marker that is no stop marker is refused, with bands and without; and so is a fourth band
   pub marker_on_bands : FillsTo (from (codes "00010005a")) (Err (refused 9 None)) (at_marker ready (codes "0005a"))
   pub marker_in_data : FillsTo (without_bands (from (codes "00010005a"))) (Err (refused 12 None)) (without_bands (at_marker ready (codes "0005a")))
@@ -126,6 +128,7 @@ pub record SessionExamples : Type 0 where
   pub fill_meets_none : FillsTo (read_out (codes "00000005b")) (Ok []) (closed (codes "0005b"))
   pub none_then : ReadsLine (closed (codes "0005b")) None (closed (codes "0005b"))
   pub line_then : ReadsLine (resumed (closed (codes "0005b"))) (Some (Ok (payload (codes "b")))) (behind (codes "b") no_window [])
+  pub text_at_none : AppendsTo 9 (closed []) (Ok 0) (codes "t") (closed [])
   -- a window that is no text, or does not fit, stays open, and the text stays
   pub no_text : AppendsTo 9 (from (codes "0006\u{1}" ++ (255 ∷ []))) (Err (refused 14 None)) (codes "t") (opened (255 ∷ []) [])
   pub no_room : AppendsTo 1 (from (codes "0006\u{1}a")) (Err (refused 15 None)) (codes "t") (opened (codes "a") [])

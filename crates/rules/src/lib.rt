@@ -13,7 +13,6 @@ pub fn reader_examples_hold()
 {}
 
 /// Carries the worked runs of a session.
-#[tactic(auto, unfolding(hex_digits::specs::Digits::length_field))]
 pub fn session_examples_hold()
     ensures { SessionExamples }
 {}

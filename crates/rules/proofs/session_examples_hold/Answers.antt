@@ -33,7 +33,10 @@ stands : {H : Type 0} {rule : Rule H} {s : Session} {items : List Item} {h : H} 
     nat_lt s.window.pos s.window.cap ≡ true → Uses fill_buf (Ok s.window.unread) s.window a w → FillingCall rule fill_buf s items h a (with_window s w) items h
 stands l u = fills_first refl (has_bytes l refl) u refl
 
--- a byte of 255 begins no text
+-- a letter is text, and a byte of 255 is not
+letter : Octets (97 ∷ [])
+letter = utf8_1 97 [] (omega arith, omega arith) none
+
 no_text_255 : Octets (255 ∷ []) → ⊥
 no_text_255 (utf8_1 a s i o) = omega arith
 
@@ -56,6 +59,8 @@ returns c =
       logs_text = filled refl refl (more refl (last refl)) shows_window;
       no_room_to_log = filled refl refl (last refl) refused_fill;
       logs_no_more = filled refl refl (last refl) refused_fill;
+      stays_as_it_is = λ written free band t. refl;
+      stops_ever_after = λ written free band t. refl;
       marker_on_bands = filled refl refl (last refl) refused_fill;
       marker_in_data = filled refl refl (last refl) refused_fill;
       band_four = filled refl refl (last refl) refused_fill;
@@ -65,9 +70,10 @@ returns c =
       fill_meets_none = filled refl refl (last refl) shows_window;
       none_then = record { answers = refl; becomes = refl; leaves = refl };
       line_then = record { answers = refl; becomes = refl; leaves = refl };
+      text_at_none = filled refl refl (last refl) (appends none (omega arith));
       no_text = filled refl refl (last refl) (finds_no_text no_text_255);
-      no_room = filled refl refl (last refl) (finds_no_room (utf8_1 97 [] (omega arith, omega arith) none) (omega arith));
-      appends_window = filled refl refl (last refl) (appends (utf8_1 97 [] (omega arith, omega arith) none) (omega arith));
+      no_room = filled refl refl (last refl) (finds_no_room letter (omega arith));
+      appends_window = filled refl refl (last refl) (appends letter (omega arith));
       consume_then = refl;
       consume_saturates = refl;
       reads_to_front = filled refl refl (last refl) (copies refl);
