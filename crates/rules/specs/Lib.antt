@@ -5,3 +5,5 @@ pub mod Sessions
 pub mod Sending
 pub mod Laws
 pub mod Examples
+pub mod SessionExamples
+pub mod SendingExamples
