@@ -1,13 +1,12 @@
 -- The trial of a writer.
-use Rattle.std.proofs.Common.{◌≡◌, ℕ, zero, suc, ◌+◌, ◌<◌, ◌-◌, Bool, true, false, if◌then◌else◌, ◌==◌, List, [], ◌∷◌, ◌++◌, length, take, drop, map, Some, None, Ok, Err, Option, Result, slice_get, sym, refl, ap, ◌∙◌, subst, arith, length-drop, append-nil, ne_eqb}
+use Rattle.std.proofs.Common.{◌≡◌, ℕ, zero, suc, ◌<◌, List, [], ◌∷◌, ◌++◌, length, drop, map, Ok, Err, Result, sym, refl, ap, ◌∙◌, arith, length-drop, append-nil, ne_eqb}
 use Rattle.std.proofs.lemmas.List.{length-map}
 use Rattle.lines.specs.Refusals.{Refusal}
 use Rattle.lines.specs.Format.{Line, payload, encoded}
 use Rattle.links.specs.Slots.{Slot}
 use Rattle.links.specs.Send.{send}
-use Rattle.rules.specs.Refusals.{no_data}
-use Rattle.rules.specs.Sending.{Mode, binary, ending, pieces_among, pieces, input_lines, LinesSent, line_first, send_lines, send_planned, write, counts, Answer, done, answer_of, plan, written_by, count_if, answer_of_writer, Sender}
-use Rattle.sending_law.specs.Law.{outcome, Outcome}
+use Rattle.rules.specs.Sending.{Mode, binary, pieces_among, pieces, LinesSent, line_first, send_lines, send_planned, write, counts, Answer, done, answer_of, plan, count_if, Sender}
+use Rattle.sending_law.specs.Law.{Outcome}
 use Rattle.counterexamples.specs.Trials.{OneLineSent}
 
 -- more than n bytes are more than one piece
@@ -32,10 +31,12 @@ all_whole (l ∷ ls) slots is =
     let sent = send (encoded l) slots in
     whole_first l ls sent.accepted sent.answer sent.left (send_lines ls (send (encoded l) slots).left) (all_whole ls (send (encoded l) slots).left) is
 
+-- a whole length is answered only where nothing was refused
 counted : (r : Result Unit Refusal) (n : ℕ) → counts (count_if r n) ≡ counts (Ok n) → r ≡ Ok tt
 counted (Ok tt) n is = refl
 counted (Err e) n is = absurd (let z : ◌≡◌ {A = ℕ} 0 1 = cc in omega arith)
 
+-- so of several lines it is not one that was accepted whole
 not_one : (ls : List Line) (slots : List Slot) (l : Line) (n : ℕ) → 1 < length ls → counts (count_if (send_lines ls slots).answer n) ≡ counts (Ok n) → (send_lines ls slots).whole ++ [] ≡ l ∷ [] → ⊥
 not_one ls slots l n more is one =
     let whole = all_whole ls slots (counted (send_lines ls slots).answer n is) in
@@ -46,11 +47,13 @@ not_one ls slots l n more is one =
 abbrev lines_of : List ℕ → List Line
 lines_of d = map (λ p. payload (p ++ [])) (pieces 65516 d)
 
+-- an input of more than one piece is sent as those
 planned : (modes : List Mode) (d : List ℕ) → modes ≡ binary ∷ [] → 65516 < length d → plan modes (write 0 d) ≡ Ok (lines_of d)
 planned modes d is long =
     let some = ne_eqb (length d) 0 (λ none_left. omega arith) in
     rw (is, some) refl
 
+-- the first of the answers, if there is one
 abbrev first_answer : List Answer → Answer
 first_answer [] = done
 first_answer (a ∷ others) = a
