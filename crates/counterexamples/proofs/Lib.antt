@@ -1,0 +1,4 @@
+mod Made
+mod Readings
+mod Fillings
+mod Writings
