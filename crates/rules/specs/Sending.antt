@@ -5,7 +5,7 @@ use Rattle.lines.specs.Meaning.{channel_of}
 use Rattle.lines.specs.Refusals.{Refusal}
 use Rattle.lines.specs.Format.{Line, payload, flush, delimiter, response_end, most_data, framed, encoded}
 use Rattle.links.specs.Slots.{Slot, Stand}
-use Rattle.links.specs.Send.{Sent, send, stand_behind}
+use Rattle.links.specs.Send.{send, stand_behind}
 use Rattle.rules.specs.Refusals.{exceeds, no_data}
 
 -- Encoders
