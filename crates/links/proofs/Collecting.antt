@@ -3,7 +3,7 @@ use Rattle.std.proofs.Common.{◌≡◌, ℕ, zero, suc, ◌+◌, ◌-◌, ◌<�
 use Rattle.std.proofs.Common.{drop, Ok, Err, Result, sym, refl, ap, ◌∙◌, inl, inr, append_assoc, suc-add, zero-add, arith}
 use Rattle.std.proofs.Math.Seq.{take-append-add, drop-append-add}
 use borrow.Rule.Slice.PartMut.{put_mid}
-use Rattle.std.proofs.lemmas.List.{length-take-le, nil_from_length, length-map, length-append, take_all, append-nil, length-take, length-drop, drop_all, drop-drop, take_rest, take-append-drop}
+use Rattle.std.proofs.lemmas.List.{length-take-le, nil_from_length, append-nil, length-take, length-drop, drop_all, drop-drop, take_rest, take-append-drop}
 use Rattle.std.proofs.lemmas.Bool.{cases_lt}
 use Rattle.lines.specs.Refusals.{Refusal}
 use Rattle.links.specs.Refusals.{ended}
@@ -97,14 +97,6 @@ module _ (total : Collected) (first memory ys : List ℕ) (at : ℕ) (items rest
         back ∙ (given.beyond ∙ further n),
       )
 
-  pub falls : (n : ℕ) → length ys ≡ length part → (n ≡ 0 → ⊥) → Gives items part n rest ys → length rest < length items
-  falls n same some given =
-      let most = given.most in
-      let more : length (take n ys) ≡ n = length-take-le n ys (omega arith) in
-      let all : length items ≡ length (map byte (take n ys)) + length rest = ap length given.given ∙ length-append (map byte (take n ys)) rest in
-      let bytes = length-map (take n ys) byte in
-      omega arith
-
   -- an item that was spent left memory as it was
   unchanged : (item : Item) → Spends item items part rest ys → after ≡ memory
   unchanged item spends = after_is ∙ (ap (λ l. take at memory ++ l) (spends.kept ∙ take_rest memory at) ∙ take-append-drop at memory)
@@ -143,20 +135,6 @@ module _ (total : Collected) (first memory ys : List ℕ) (at : ℕ) (items rest
       let kept : ys ≡ part = given.beyond in
       ends_with ended (ap (collect (length first - at)) none ∙ (collect_none (length first - at) (omega arith) ∙ ap (stops (Err ended)) (sym rest_none)))
       (after_is ∙ (ap (λ l. take at memory ++ l) (kept ∙ take_rest memory at) ∙ take-append-drop at memory))
-
--- the memory is full
-pub full : (total : Collected) (first memory : List ℕ) (at : ℕ) (items : List Item) →
-    total ≡ behind (take at memory) (collect (length first - at) items) → length memory ≡ length first → length memory ≤ at → Fills total first (Ok tt) items memory
-full total first memory at items so_far whole all =
-    let none : length first - at ≡ 0 = omega arith in
-    let every : take at memory ≡ memory = take_all at memory all in
-    let done : total ≡ behind memory (stops (Ok tt) items) = so_far ∙ rw (none, every) in
-    let had : total.got ≡ memory = ap (λ (c : Collected). c.got) done ∙ append-nil memory in
-    record {
-      answers = ap (λ (c : Collected). c.answer) done;
-      holds = sym (rw had (ap (λ l. memory ++ l) (drop_all (length memory) first (omega arith)) ∙ append-nil memory));
-      leaves = ap (λ (c : Collected). c.rest) done;
-    }
 
 -- what a read did, where its answer is known
 pub reads_interrupted : {items rest : List Item} {memory after : List ℕ} (r : Result Moved LinkFault) → r ≡ Ok Interrupted → Reads items memory r rest after → Spends interruption items memory rest after

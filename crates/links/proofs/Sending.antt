@@ -1,6 +1,6 @@
 -- How the sending of bytes goes on from write to write, and from sending to sending.
-use Rattle.std.proofs.Common.{◌≡◌, ℕ, ◌+◌, ◌-◌, ◌<◌, ◌≤◌, List, [], ◌∷◌, ◌++◌, length, take, drop, replicate, Ok, Err, Result, sym, refl, ap, ◌∙◌, inl, inr, arith}
-use Rattle.std.proofs.lemmas.List.{append-nil, append_assoc, length-append, length-take-le, length-replicate, length-drop, nil_from_length, take-append-drop, drop-drop, take_rest, drop_all}
+use Rattle.std.proofs.Common.{◌≡◌, ℕ, ◌-◌, ◌<◌, List, [], ◌∷◌, ◌++◌, length, take, drop, replicate, Ok, Err, Result, sym, refl, ap, ◌∙◌, inl, inr, arith}
+use Rattle.std.proofs.lemmas.List.{append-nil, append_assoc, length-append, length-take-le, nil_from_length, take-append-drop, drop-drop, take_rest}
 use Rattle.std.proofs.lemmas.Bool.{cases_lt}
 use Rattle.lines.specs.Refusals.{Refusal}
 use Rattle.links.specs.Refusals.{takes_none}
@@ -64,10 +64,6 @@ joined_stand s t front r h a b =
     (ap (λ n. drop n s.beyond) (length-append front r.accepted) ∙ (sym (drop-drop (length r.accepted) (length front) s.beyond) ∙ ap (drop (length r.accepted)) (sym b)))
     refl
 
--- nothing is sent: the sink stands where it stood
-none_left : (s : Stand) → outcome [] s ≡ comes_to (Ok tt) s
-none_left s = ap (comes_to (Ok tt)) (same_stand {s = pushed [] s} {t = s} refl (append-nil s.accepted) refl refl)
-
 -- One write
 
 takes : (s t : Stand) (bytes : List ℕ) (n : ℕ) → Takes s bytes n t → outcome bytes s ≡ outcome (drop n bytes) t
@@ -102,12 +98,6 @@ takes_zero s t bytes some w =
     by_sent s bytes (ceases (Err takes_none) t.room) (ap (send bytes) none ∙ (send_none bytes some ∙ ap (ceases (Err takes_none)) (sym none_after)))
     ∙ ap (comes_to (Err takes_none)) (ceased s t (Err takes_none) w.at_home (w.accepts ∙ append-nil s.accepted) w.keeps)
 
-pub takes_falls : (s t : Stand) (bytes : List ℕ) (n : ℕ) → (n ≡ 0 → ⊥) → Takes s bytes n t → length t.room < length s.room
-takes_falls s t bytes n some w =
-    let all : length s.room ≡ length (replicate n place) + length t.room = ap length w.used ∙ length-append (replicate n place) t.room in
-    let places = length-replicate n place in
-    omega arith
-
 -- A turn: `rest`, what is left of the bytes, was handed in.
 module _ (total : Outcome) (s t : Stand) (rest : List ℕ) (so_far : total ≡ outcome rest s) where
   pub goes_on : (n : ℕ) → Takes s rest n t → total ≡ outcome (take (length rest - n) (drop n rest)) t
@@ -121,9 +111,6 @@ module _ (total : Outcome) (s t : Stand) (rest : List ℕ) (so_far : total ≡ o
 
   pub takes_no_more : 0 < length rest → Takes s rest 0 t → total ≡ comes_to (Err takes_none) t
   takes_no_more some w = so_far ∙ takes_zero s t rest some w
-
-  pub all_sent : length rest ≡ 0 → total ≡ comes_to (Ok tt) s
-  all_sent none = so_far ∙ (ap (λ l. outcome l s) (nil_from_length rest none) ∙ none_left s)
 
 -- what a write did, where its answer is known
 pub writes_interrupted : {s t : Stand} {bytes : List ℕ} (r : Result Moved LinkFault) → r ≡ Ok Interrupted → Writes s bytes r t → Spends interrupts s bytes t

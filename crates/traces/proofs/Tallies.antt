@@ -1,5 +1,5 @@
 -- Counts of lists, put together.
-use Rattle.std.proofs.Common.{◌≡◌, ℕ, ◌+◌, List, [], ◌∷◌, ◌++◌, sym, refl, ap, ◌∙◌, zero-add, add-zero, add_assoc}
+use Rattle.std.proofs.Common.{◌≡◌, ℕ, ◌+◌, List, [], ◌∷◌, ◌++◌, sym, refl, ap, ◌∙◌, zero-add, add_assoc}
 use Rattle.links.specs.Items.{Effect}
 use Rattle.traces.specs.Counts.{nothing, both, worth, tally}
 use Rattle.traces.specs.declared.Left.{Left}
@@ -14,9 +14,6 @@ only_bytes n = record { bytes = n; interruptions = 0; faults = 0 }
 
 pub nothing_first : (l : Left) → both nothing l ≡ l
 nothing_first l = same_left (zero-add l.bytes) (zero-add l.interruptions) (zero-add l.faults)
-
-pub nothing_last : (l : Left) → both l nothing ≡ l
-nothing_last l = same_left (add-zero l.bytes) (add-zero l.interruptions) (add-zero l.faults)
 
 pub both_assoc : (l m n : Left) → both (both l m) n ≡ both l (both m n)
 both_assoc l m n = same_left (add_assoc l.bytes m.bytes n.bytes) (add_assoc l.interruptions m.interruptions n.interruptions) (add_assoc l.faults m.faults n.faults)

@@ -1,7 +1,7 @@
-use Rattle.std.proofs.Common.{refl, arith, rules}
+use Rattle.std.proofs.Common.{refl, arith}
 use Rattle.std.proofs.lemmas.Result.{err_from_is_err_and}
 use Rattle.links.specs.Slots.{interrupts}
-use Rattle.links.proofs.Sending.{sends_as, goes_on, passes_over, faults, takes_no_more, all_sent, takes_falls, writes_interrupted, writes_bytes}
+use Rattle.links.proofs.Sending.{sends_as, goes_on, passes_over, faults, takes_no_more, writes_interrupted, writes_bytes}
 use Rattle.links.proofs.sink.write_all.Goals as goal
 
 pub returns-in_err-write : goal.returns-in_err-write
@@ -19,15 +19,7 @@ returns-in-Bytes-eq0 g c =
     let was = c.in_ok-write.was in
     sends_as (takes_no_more _ _ _ _ c.push.invariant (grind (arith, c.push-test.true, c.is_empty.ensures)) (writes_bytes c.write.result 0 (cc) c.write.ensures))
 
-pub push-smaller : goal.push-smaller
-push-smaller g c =
-    let was = c.in_ok-write.was in
-    takes_falls _ _ _ c.in-Bytes.n (omega arith) (writes_bytes c.write.result c.in-Bytes.n (cc) c.write.ensures)
-
 pub push-preserved : goal.push-preserved
 push-preserved g c =
     let was = c.in_ok-write.was in
     goes_on _ _ _ _ c.push.invariant c.in-Bytes.n (writes_bytes c.write.result c.in-Bytes.n (cc) c.write.ensures)
-
-pub returns : goal.returns
-returns g c = sends_as (all_sent _ (g.K.Sink.stand c.push.sink) (g.K.Sink.stand c.push.sink) c.push.rest.now c.push.invariant (search rules))

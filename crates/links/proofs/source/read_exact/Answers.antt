@@ -1,7 +1,7 @@
 use Rattle.std.proofs.Common.{refl, arith, rules}
 use Rattle.std.proofs.lemmas.Result.{err_from_is_err_and}
 use Rattle.links.specs.Items.{interruption}
-use Rattle.links.proofs.Collecting.{collects, goes_on, falls, passes_over, faults, runs_out, full, reads_interrupted, reads_bytes}
+use Rattle.links.proofs.Collecting.{collects, goes_on, passes_over, faults, runs_out, reads_interrupted, reads_bytes}
 use Rattle.links.proofs.source.read_exact.Goals as goal
 
 pub returns-in_err-read : goal.returns-in_err-read
@@ -23,18 +23,9 @@ returns-in-Bytes-eq0 g c =
     let i = c.fill.invariant in
     collects (runs_out _ _ _ _ _ _ _ i.1 i.2 c.fill.auto.memory c.fill-test.true (reads_bytes c.read.result 0 (cc) c.read.ensures))
 
-pub fill-smaller : goal.fill-smaller
-fill-smaller g c =
-    let was = c.in_ok-read.was in
-    let i = c.fill.invariant in
-    falls _ _ _ c.read.new.memory _ _ _ i.1 i.2 c.fill.auto.memory c.fill-test.true c.in-Bytes.n (omega arith) (omega arith) (reads_bytes c.read.result c.in-Bytes.n (cc) c.read.ensures)
-
 pub fill-preserved : goal.fill-preserved
 fill-preserved g c =
     let was = c.in_ok-read.was in
     let i = c.fill.invariant in
     let t = goes_on _ _ _ _ _ _ _ i.1 i.2 c.fill.auto.memory c.fill-test.true _ (omega arith) (reads_bytes c.read.result c.in-Bytes.n (cc) c.read.ensures) in
     (search rules, t.1, t.2)
-
-pub returns : goal.returns
-returns g c = collects (full _ _ _ _ _ c.fill.invariant.1 c.fill.auto.memory c.fill-test.false)
