@@ -1,10 +1,10 @@
 -- One line more is one more of all lines.
-use Rattle.std.proofs.Common.{◌≡◌, ℕ, ◌+◌, ◌-◌, ◌≤◌, List, length, take, drop, length-drop, Ok, sym, refl, ap, ◌∙◌, arith}
+use Rattle.std.proofs.Common.{◌≡◌, ℕ, ◌+◌, ◌-◌, ◌≤◌, List, length, take, drop, length-drop, Ok, Result, sym, refl, ap, ◌∙◌, arith}
 use Rattle.std.proofs.lemmas.List.{take_rest, drop-drop}
 use Rattle.lines.specs.Format.{Line, payload, flush, delimiter, response_end}
 use Rattle.lines.specs.Decoding.{complete, streamed}
 use Rattle.captures.specs.declared.tally.Lines.{Lines}
-use Rattle.captures.specs.declared.tally.End.{End}
+use Rattle.lines.specs.declared.decode.DecodeFault.{DecodeFault}
 use Rattle.captures.specs.Tallies.{total, none, with_line, Decodes, begins, goes_on, Ends}
 
 pub total_more : (t : Lines) (l : Line) (n : ℕ) → total (with_line t l n) ≡ total t + 1
@@ -39,7 +39,7 @@ walks s r q t u l m w h four within e is =
     }
 
 -- what stands behind the walk
-pub behind : (s r : List ℕ) (t : Lines) (e : End) → Walked s r t → Ends r e → Ends (drop (length s - length r) s) e
+pub behind : (s r : List ℕ) (t : Lines) (e : Result Unit DecodeFault) → Walked s r t → Ends r e → Ends (drop (length s - length r) s) e
 behind s r t e w h =
     let n_is : length s - length r ≡ w.n = let long = w.long in omega arith in
     rw (n_is, w.rest) h

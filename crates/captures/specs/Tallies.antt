@@ -1,11 +1,10 @@
 -- The lines of a capture, one after another.
-use Rattle.std.specs.Prelude.{◌≡◌, ℕ, ◌+◌, ◌<◌, max, List, length, drop, Ok, Err}
+use Rattle.std.specs.Prelude.{◌≡◌, ℕ, ◌+◌, ◌<◌, max, List, length, drop, Ok, Err, Result}
 use Rattle.lines.specs.Format.{Line, payload, flush, delimiter, response_end}
-use Rattle.lines.specs.Decoding.{complete, incomplete, streamed}
+use Rattle.lines.specs.Decoding.{complete, streamed, decoded}
 use Rattle.lines.specs.Meaning.{decode_refusal}
 use Rattle.captures.specs.declared.tally.Lines.{Lines}
-use Rattle.captures.specs.declared.tally.End.{End}
-use Rattle.captures.specs.declared.tally.End.TheVariants.{Whole, Cut, Refused}
+use Rattle.lines.specs.declared.decode.DecodeFault.{DecodeFault}
 
 -- all lines of a count
 abbrev pub total : Lines → ℕ
@@ -27,8 +26,7 @@ pub data Decodes : List ℕ → ℕ → Lines → Type 0 where
   begins : (s : List ℕ) (t : Lines) → t ≡ none → Decodes s 0 t
   goes_on : (s : List ℕ) (n m : ℕ) (l : Line) (t u : Lines) → Decodes s n t → streamed (drop n s) ≡ Ok (complete l m) → u ≡ with_line t l m → Decodes s (n + m) u
 
--- the bytes r begin with no line, for this reason
-abbrev pub Ends : List ℕ → End → Type 0
-Ends r Whole = length r ≡ 0
-Ends r (Cut n) = (0 < length r) × (streamed r ≡ Ok (incomplete n))
-Ends r (Refused e) = streamed r ≡ Err (decode_refusal e)
+-- no bytes are left in r, or they begin with no line, for this reason
+abbrev pub Ends : List ℕ → Result Unit DecodeFault → Type 0
+Ends r (Ok u) = length r ≡ 0
+Ends r (Err e) = (0 < length r) × (decoded r ≡ Err (decode_refusal e))

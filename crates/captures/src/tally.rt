@@ -22,18 +22,6 @@ pub struct Lines {
     pub response_ends: usize,
 }
 
-/// What stands behind the last line.
-// Kept: it has three cases, so neither `Option` nor `Result` says it plainer.
-#[derive(Clone, Copy, Debug, PartialEq, Eq, Hash)]
-pub enum End {
-    /// Nothing.
-    Whole,
-    /// A part of a line, which needs so many bytes more.
-    Cut(usize),
-    /// A prefix that is refused.
-    Refused(DecodeFault),
-}
-
 /// The lines of a capture.
 #[derive(Clone, Copy, Debug, PartialEq, Eq, Hash)]
 pub struct Tally {
@@ -41,8 +29,8 @@ pub struct Tally {
     pub lines: Lines,
     /// How many bytes they take.
     pub decoded: usize,
-    /// What comes behind them.
-    pub end: End,
+    /// Whether they go to its end, or why a line does not.
+    pub end: Result<(), DecodeFault>,
 }
 
 /// Decodes a capture as far as it holds lines.
@@ -53,9 +41,10 @@ pub fn tally_of(bytes: &[u8]) -> Tally
 {
     let mut lines = Lines::default();
     let mut rest = bytes;
+    // Kept: `entries::Entries` goes on behind a refused prefix, and this ends there.
     let end = 'lines: loop {
         if rest.is_empty() {
-            break End::Whole;
+            break Ok(());
         }
         match streaming(rest) {
             Ok(
@@ -67,8 +56,10 @@ pub fn tally_of(bytes: &[u8]) -> Tally
                 lines = lines.counted(&line, bytes_consumed);
                 rest = &rest[bytes_consumed..];
             }
-            Ok(Stream::Incomplete { bytes_needed }) => break End::Cut(bytes_needed),
-            Err(fault) => break End::Refused(fault),
+            Ok(Stream::Incomplete { bytes_needed }) => break Err(DecodeFault::Missing(
+                bytes_needed,
+            )),
+            Err(fault) => break Err(fault),
         }
     };
     Tally {
@@ -110,9 +101,12 @@ impl fmt::Display for Tally {
         )?;
         let decoded = self.decoded;
         match self.end {
-            End::Whole => f.write_str("to its end"),
-            End::Cut(missing) => write!(f, "{decoded} bytes, and a line that lacks {missing}"),
-            End::Refused(fault) => { write!(f, "{decoded} bytes, then refusal {}", fault.number()) }
+            Ok(()) => f.write_str("to its end"),
+            Err(DecodeFault::Missing(missing)) => write!(
+                f,
+                "{decoded} bytes, and a line that lacks {missing}"
+            ),
+            Err(fault) => { write!(f, "{decoded} bytes, then refusal {}", fault.number()) }
         }
     }
 }

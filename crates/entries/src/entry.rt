@@ -78,7 +78,7 @@ pub fn next_entry(bytes: &[u8], at_end: bool) -> Option<Entry<'_>>
 }
 
 /// The entries that bytes begin with, one after another.
-#[derive(Clone, Debug, Drop)]
+#[derive(Clone, Debug, Drop, PartialEq, Eq, Hash)]
 pub struct Entries<'a> {
     rest: &'a [u8],
     at_end: bool,
@@ -100,7 +100,8 @@ impl<'a> Entries<'a> {
     pub fn rest(&self) -> &'a [u8]
         ensures { result.now ≡ self.now.rest.now }
     {
-        self.rest
+        let Entries { rest, .. } = self;
+        *rest
     }
 }
 

@@ -186,6 +186,7 @@ pub fn examples_hold()
     ensures { Examples }
 {}
 
+#[tactic(auto, using(hex_digits::proofs::Reading::by_halves, hex_digits::proofs::Reading::no_field))]
 fn hex_value(four_bytes: &[u8]) -> Option<u16>
     ensures { result ≡ length_field four_bytes.now }
 {
@@ -194,5 +195,5 @@ fn hex_value(four_bytes: &[u8]) -> Option<u16>
     };
     let high = hex_byte(*a, *b)?;
     let low = hex_byte(*c, *d)?;
-    Some(256 * u16::from(high) + u16::from(low))
+    Some(u16::from_be_bytes([high, low]))
 }

@@ -13,7 +13,7 @@ use std::fmt;
 pub type FaultNumber = u8;
 
 /// How many bytes a call on a source or on a sink moved.
-// Kept: it has the shape of an Option, but `None` would read as the end of what is to come.
+// Kept: as an Option, `None` would read as the end of what is to come; as an error, `?` would carry an interruption upward.
 #[derive(Clone, Copy, Debug, PartialEq, Eq, Hash)]
 pub enum Moved {
     /// So many bytes; none only where none were asked for or handed in, or none are to come.

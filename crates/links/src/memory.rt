@@ -5,7 +5,7 @@ use lines::MAX_LINE_LEN;
 use std::alloc::{AllocError, Global};
 
 /// A memory for one line, as long as the longest.
-#[derive(Debug, Drop)]
+#[derive(Debug, Drop, PartialEq, Eq, Hash)]
 pub struct LineMemory {
     /// The bytes: a prefix and its payload, and what was there before.
     pub bytes: Vec<u8>,

@@ -3,7 +3,7 @@ use entries::totals::{MOST_REFUSALS, Totals};
 use std::fmt;
 
 /// What a capture held, in the lines that close it.
-#[derive(Clone, Copy, Debug)]
+#[derive(Clone, Copy, Debug, PartialEq, Eq, Hash)]
 pub struct Closing(pub Totals);
 
 impl fmt::Display for Closing {

@@ -104,7 +104,7 @@ fn show(rt: &HostRuntime, file: &str, bands: bool) -> Result<(), Failure> {
 
 /// Adds the next piece of a capture to `held`, and answers its length: 0 at the end.
 fn read_piece(capture: &mut File, held: &mut Vec<u8>) -> io::Result<usize> {
-    // Kept: a `BufReader` would hold this array in its place, and is no plainer.
+    // Kept: one read for a piece, so that the lines that come over a pipe are shown at once; `read_to_end` would wait.
     let mut piece = [0; PIECE];
     // Kept: every loop must end, so this one counts.
     for _ in 0..u64::MAX {

@@ -7,7 +7,7 @@ const MOST_TEXT: usize = 64;
 const MOST_HEX: usize = 20;
 
 /// Bytes between quotes, each in its spelling.
-#[derive(Clone, Copy, Debug)]
+#[derive(Clone, Copy, Debug, PartialEq, Eq, Hash)]
 pub struct Quoted<'a>(pub &'a [u8]);
 
 impl fmt::Display for Quoted<'_> {
@@ -21,7 +21,7 @@ impl fmt::Display for Quoted<'_> {
 }
 
 /// Bytes as pairs of hexadecimal digits.
-#[derive(Clone, Copy, Debug)]
+#[derive(Clone, Copy, Debug, PartialEq, Eq, Hash)]
 struct Pairs<'a>(&'a [u8]);
 
 impl fmt::Display for Pairs<'_> {
@@ -35,7 +35,7 @@ impl fmt::Display for Pairs<'_> {
 }
 
 /// How many bytes follow an excerpt; nothing where none do.
-#[derive(Clone, Copy, Debug)]
+#[derive(Clone, Copy, Debug, PartialEq, Eq, Hash)]
 struct Rest(usize);
 
 impl fmt::Display for Rest {
@@ -48,7 +48,7 @@ impl fmt::Display for Rest {
 }
 
 /// The first bytes of a payload, as text or as hexadecimal digits, and how many bytes follow it.
-#[derive(Clone, Copy, Debug)]
+#[derive(Clone, Copy, Debug, PartialEq, Eq, Hash)]
 pub struct Excerpt<'a>(pub &'a [u8]);
 
 impl fmt::Display for Excerpt<'_> {

@@ -6,7 +6,7 @@ use lines::{BandError, BandRef, PacketLineRef, Refuses};
 use std::fmt;
 
 /// The titles of the columns.
-#[derive(Clone, Copy, Debug)]
+#[derive(Clone, Copy, Debug, PartialEq, Eq, Hash)]
 pub struct Titles {
     /// Whether there is a column for bands.
     pub bands: bool,
@@ -23,7 +23,7 @@ impl fmt::Display for Titles {
 }
 
 /// One entry of a capture, with its place.
-#[derive(Clone, Copy, Debug)]
+#[derive(Clone, Copy, Debug, PartialEq, Eq, Hash)]
 pub struct Row<'a> {
     /// Where it begins.
     pub offset: u64,

@@ -51,7 +51,7 @@ impl fmt::Display for Answer<'_> {
 }
 
 /// A line as it is printed.
-#[derive(Clone, Copy, Debug)]
+#[derive(Clone, Copy, Debug, PartialEq, Eq, Hash)]
 struct Line<'a>(PacketLineRef<'a>);
 
 impl fmt::Display for Line<'_> {
@@ -66,7 +66,7 @@ impl fmt::Display for Line<'_> {
 }
 
 /// A band and what came on it, as they are printed.
-#[derive(Clone, Copy, Debug)]
+#[derive(Clone, Copy, Debug, PartialEq, Eq, Hash)]
 struct Band<'a>(BandRef<'a>);
 
 impl fmt::Display for Band<'_> {
@@ -86,7 +86,7 @@ const MOST_WHOLE: usize = 64;
 const END: usize = 8;
 
 /// Bytes as they are printed: `-` for none, hexadecimal pairs, or length, hash and both ends of many.
-#[derive(Clone, Copy, Debug)]
+#[derive(Clone, Copy, Debug, PartialEq, Eq, Hash)]
 struct Bytes<'a>(&'a [u8]);
 
 impl fmt::Display for Bytes<'_> {
@@ -105,7 +105,7 @@ impl fmt::Display for Bytes<'_> {
 }
 
 /// Bytes as pairs of hexadecimal digits.
-#[derive(Clone, Copy, Debug)]
+#[derive(Clone, Copy, Debug, PartialEq, Eq, Hash)]
 struct Hex<'a>(&'a [u8]);
 
 impl fmt::Display for Hex<'_> {

@@ -9,7 +9,7 @@ use std::error::Error;
 use std::fmt;
 
 /// What a line of a script asks for.
-#[derive(Debug, Drop)]
+#[derive(Debug, Drop, PartialEq, Eq, Hash)]
 pub enum Step<'a> {
     /// Nothing: it is empty or a comment.
     Nothing,
@@ -20,7 +20,7 @@ pub enum Step<'a> {
 }
 
 /// A call on packet lines, by the name of its function.
-#[derive(Debug, Drop)]
+#[derive(Debug, Drop, PartialEq, Eq, Hash)]
 pub enum Call {
     /// `hex_prefix BYTES`
     HexPrefix(Vec<u8>),

@@ -9,7 +9,7 @@ use lines::{Channel, PacketLineRef};
 use std::alloc::Global;
 
 /// A line that a script writes out.
-#[derive(Debug, Drop)]
+#[derive(Debug, Drop, PartialEq, Eq, Hash)]
 pub enum ScriptLine {
     /// The bytes of a payload.
     Payload(Vec<u8>),
@@ -45,7 +45,7 @@ pub fn parse_line(heap: Global, word: &str) -> Result<ScriptLine, ScriptFault>
 pub fn parse_band(word: &str) -> Result<Channel, ScriptFault>
     ensures { IfOk result (λ k. word.now ≡ (48 + channel_of k) ∷ []) }
 {
-    // Kept: a `u8` parsed and then `try_from` would take `01` and `+1` too.
+    // Kept: a parsed `u8` and `try_from` would take `01` and `+1` too, and a digit taken apart is no plainer.
     match word {
         "1" => Ok(Channel::Data),
         "2" => Ok(Channel::Progress),

@@ -71,6 +71,7 @@ impl Sink for Trace<'_, '_> {
         if bytes.is_empty() {
             return Ok(Moved::Bytes(0));
         }
+        // Kept: a source's trace has this loop too, but for what a step of bytes does to it.
         'steps: while self.piece.min(self.free()) == 0 {
             let [step, rest @ ..] = self.steps else {
                 return Ok(Moved::Bytes(0));

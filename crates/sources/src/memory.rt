@@ -9,7 +9,7 @@ use links::{LinkFault, Moved};
 use traces::Left;
 
 /// A source of lent bytes.
-#[derive(Clone, Copy, Debug)]
+#[derive(Debug, Drop, PartialEq, Eq, Hash)]
 pub struct Memory<'a> {
     bytes: &'a [u8],
 }

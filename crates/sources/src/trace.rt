@@ -13,7 +13,7 @@ use traces::{Left, Step};
 ///
 /// Kind 0 gives that many bytes, or those left; kind 2 is the fault of that number; any other kind is an interruption.
 /// An incomplete last step is void, and bytes behind the last step never come.
-#[derive(Clone, Copy, Debug)]
+#[derive(Debug, Drop, PartialEq, Eq, Hash)]
 pub struct Trace<'a, 'b> {
     // What is still to come of the step that was begun last; `bytes` is for the steps behind it.
     piece: Memory<'a>,
