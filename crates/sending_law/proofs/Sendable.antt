@@ -1,5 +1,6 @@
 -- Every line that is sent has a payload of 1 to 65,516 bytes, or is a marker.
-use Rattle.std.proofs.Common.{◌≡◌, ℕ, zero, suc, ◌+◌, ◌<◌, ◌≤◌, Bool, true, false, if◌then◌else◌, ◌==◌, nat_lt, List, [], ◌∷◌, ◌++◌, map, length, take, drop, Ok, Err, Result, Option, Some, None, sym, refl, ap, subst, length-append, arith, false-eqb, codes, slice_get}
+use Rattle.std.proofs.Common.{◌≡◌, ℕ, zero, suc, ◌+◌, ◌<◌, ◌≤◌, Bool, true, false, if◌then◌else◌, ◌==◌, nat_lt, List, [], ◌∷◌, ◌++◌, map, length, take, drop, Ok, Err, Result}
+use Rattle.std.proofs.Common.{Option, Some, None, sym, refl, ap, subst, length-append, arith, false-eqb, codes, slice_get}
 use Rattle.std.proofs.lemmas.Bool.{ltb-false}
 use Rattle.std.proofs.lemmas.List.{length-take}
 use Rattle.lines.specs.Meaning.{channel_of}

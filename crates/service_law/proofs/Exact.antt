@@ -47,7 +47,8 @@ module _ {H : Type 0} (rule : Rule H) where
     units_so : us ≡ plain_units c a.session a.left
     windows_so : ws ≡ plain_windows c a.session
 
-  plain_exact : (a b : State H) {c : Plain} {ans : Answer} {us : List UnitMark} {ws : List WindowMark} (vs : List UnitMark) (zs : List WindowMark) → Lawful rule (terms_of a) (plain c) ans us ws → Ahead a (us ++ vs) (ws ++ zs) b → PlainSo a c ans us ws
+  plain_exact : (a b : State H) {c : Plain} {ans : Answer} {us : List UnitMark} {ws : List WindowMark} (vs : List UnitMark) (zs : List WindowMark) →
+      Lawful rule (terms_of a) (plain c) ans us ws → Ahead a (us ++ vs) (ws ++ zs) b → PlainSo a c ans us ws
   plain_exact a b vs zs (law.Lawful.reads {us} {place} by) g = grind (arith, whole_answer, read_exact whole a.session.reader a.left us vs place (course b.session.reader b.left) by g.lives)
   plain_exact a b vs zs (law.Lawful.peeks {us} {a = v} by) g = grind (arith, peek_exact a.session.reader a.left us vs v (course b.session.reader b.left) by g.lives)
   plain_exact a b vs zs (law.Lawful.reads_data {us} {place} e by) g =

@@ -5,7 +5,8 @@ use Rattle.utf8.specs.Rfc3629.{Octets, none, utf8_1}
 use Rattle.links.specs.Items.{Item}
 use Rattle.rules.specs.Handlers.{Rule}
 use Rattle.rules.specs.Readers.{Reader, verdict, left_in, read_after}
-use Rattle.rules.specs.Sessions.{Place, Way, way_of, Window, Session, destination, passes, moved, Fills, ends, goes_on, fill_answer, fill_window, FillBuf, has_bytes, with_window, Filling, fill_buf, Filled, Uses, refused_fill, shows_window, copies, finds_no_text, finds_no_room, appends, stands_open, FillingCall, fills_first, finds_window}
+use Rattle.rules.specs.Sessions.{Place, Way, way_of, Window, Session, destination, passes, moved, Fills, ends, goes_on, fill_answer, fill_window, FillBuf, has_bytes}
+use Rattle.rules.specs.Sessions.{with_window, Filling, fill_buf, Filled, Uses, refused_fill, shows_window, copies, finds_no_text, finds_no_room, appends, stands_open, FillingCall, fills_first, finds_window}
 use Rattle.rules.specs.Sessions as sessions
 use Rattle.rules.proofs.session_examples_hold.Goals as goal
 
