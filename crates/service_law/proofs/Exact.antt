@@ -14,8 +14,8 @@ use Rattle.service_law.proofs.Units.{Course, course}
 use Rattle.service_law.proofs.Units as units
 use Rattle.service_law.proofs.Windows as windows
 use Rattle.service_law.proofs.Reading.{read_exact, peek_exact, whole_answer}
-use Rattle.service_law.proofs.Steps.{Sound, Accounts, plain_units, plain_windows, plain_accounts}
-use Rattle.service_law.proofs.Openings.{filling_exact, refused_exact}
+use Rattle.service_law.proofs.Steps.{Sound, new_sound, Accounts, plain_units, plain_windows, plain_accounts}
+use Rattle.service_law.proofs.Openings.{CalledSo, filling_exact, refused_exact}
 use Rattle.service_law.proofs.Logs.{unhanded}
 
 -- a phase stands in one way, and no other one stands so
@@ -58,18 +58,15 @@ module _ {H : Type 0} (rule : Rule H) where
   plain_exact a b vs zs (law.Lawful.reads_no_data e) g = grind arith
   plain_exact a b vs zs l g = grind arith
 
-  abbrev CalledSo : State H → Call → Answer → List UnitMark → List WindowMark → Type 0
-  CalledSo a call ans us ws = (b : State H) × Step rule a call ans b × Accounts rule a call us ws b
-
   handed_exact : (a b : State H) {i : ℕ} {c : Filling} {ans : Answer} {us : List UnitMark} {ws : List WindowMark} (vs : List UnitMark) (zs : List WindowMark) →
-      Sound a → a.inside ≡ true → Lawful rule (terms_of a) (handed i c) ans us ws → Ahead a (us ++ vs) (ws ++ zs) b → CalledSo a (handed i c) ans us ws
+      Sound a → a.inside ≡ true → Lawful rule (terms_of a) (handed i c) ans us ws → Ahead a (us ++ vs) (ws ++ zs) b → CalledSo rule a (handed i c) ans us ws
   handed_exact a b vs zs q m (law.Lawful.names_no_handler {k = i} {c} e) g = (a, calls.Step.without_handler m e refl, unhanded rule a i c q)
   handed_exact a b vs zs q m (law.Lawful.finds_window {k = i} {c} {h} e t) g = let w = g.goes.0 in rw (← w) (refused_exact rule a i c h q m e (rw w t))
   handed_exact a b vs zs q m (law.Lawful.fills {k = i} {c} e t by n) g =
       let w = g.goes.0 in rw (← w) (filling_exact rule a i c vs (course b.session.reader b.left) q m e (rw w t) (rw w by) n g.lives)
 
   call_exact : (a b : State H) (call : Call) {ans : Answer} {us : List UnitMark} {ws : List WindowMark} (vs : List UnitMark) (zs : List WindowMark) →
-      Sound a → calls.May a.inside (side call) → Lawful rule (terms_of a) call ans us ws → Ahead a (us ++ vs) (ws ++ zs) b → CalledSo a call ans us ws
+      Sound a → calls.May a.inside (side call) → Lawful rule (terms_of a) call ans us ws → Ahead a (us ++ vs) (ws ++ zs) b → CalledSo rule a call ans us ws
   call_exact a b (plain c) vs zs q m l g =
       let o = plain_exact a b vs zs l g in
       (after_plain c a, calls.Step.plainly m o.answers refl, rw (o.units_so, o.windows_so) (plain_accounts rule c a q m))
@@ -94,4 +91,4 @@ module _ {H : Type 0} (rule : Rule H) where
   is_exact stops items hs log b l =
       let u = l.units_in_order in
       let g : Ahead (new_service stops items hs) (unit_marks log) (window_marks log) b = record { lives = rw (u.given, u.view_last) (units.lives_of items _ u.lives u.taken_first); goes = windows.lives_of l.band_rule.windows } in
-      run_exact log (new_service stops items hs) b (record { shows_held = tt; long = refl; shut_outside = λ e. refl }) l.band_rule.calls g l.band_rule.terms
+      run_exact log (new_service stops items hs) b (new_sound stops items hs) l.band_rule.calls g l.band_rule.terms

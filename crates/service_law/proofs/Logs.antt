@@ -14,7 +14,7 @@ use Rattle.service_law.proofs.Units.{units_go, taken_first, view_last, reported_
 use Rattle.service_law.proofs.Units as units
 use Rattle.service_law.proofs.Windows.{bytes_opened, opened_bytes, windows_go, in_order}
 use Rattle.service_law.proofs.Windows as windows
-use Rattle.service_law.proofs.Steps.{Sound, Does, Accounts, plain_units, plain_windows, plain_accounts, plain_lawful}
+use Rattle.service_law.proofs.Steps.{Sound, new_sound, Does, Accounts, plain_units, plain_windows, plain_accounts, plain_lawful}
 use Rattle.service_law.proofs.Openings.{unmoved, filled_accounts}
 
 -- what a list of calls does
@@ -53,7 +53,7 @@ module _ {H : Type 0} (rule : Rule H) where
 
   pub holds_of_every : LawHolds rule
   holds_of_every stops items hs cs b r =
-      let n = run_noted (record { shows_held = tt; long = refl; shut_outside = λ e. refl }) r in
+      let n = run_noted (new_sound stops items hs) r in
       let c = course (new_service stops items hs).session.reader items in
       let d = course b.session.reader b.left in
       let us = unit_marks n.0 in

@@ -10,7 +10,7 @@ use Rattle.rules.specs.Handlers.{Rule}
 use Rattle.rules.specs.Readers.{Reader}
 use Rattle.rules.specs.Sessions.{Place, way_of, Window, Session, with_window, fill_answer, fill_window, FillBuf, Filling, Filled, refuses, Uses, FillingCall, stands_open}
 use Rattle.rules.specs.Sessions as sessions
-use Rattle.service_law.specs.Calls.{Call, handed, filled, handler_at, at_index, State, Step}
+use Rattle.service_law.specs.Calls.{Call, Answer, handed, filled, handler_at, at_index, State, Step}
 use Rattle.service_law.specs.Calls as calls
 use Rattle.service_law.specs.Marks.{UnitMark, place_bytes, told, WindowMark, seen}
 use Rattle.service_law.specs.Law.{Terms, terms_after, terms_of, Opens, window_mark, use_marks, Lawful}
@@ -146,13 +146,13 @@ module _ {H : Type 0} (rule : Rule H) where
         refl,
       )
 
-  -- a call that fills goes by the law as by the rules
-  abbrev CalledSo : State H → ℕ → Filling → Filled → List UnitMark → List WindowMark → Type 0
-  CalledSo a k c f us ws = (b : State H) × Step rule a (handed k c) (filled f) b × Accounts rule a (handed k c) us ws b
+  -- a call with that answer and those marks goes by the rules
+  abbrev pub CalledSo : State H → Call → Answer → List UnitMark → List WindowMark → Type 0
+  CalledSo a call ans us ws = (b : State H) × Step rule a call ans b × Accounts rule a call us ws b
 
   pub filling_exact : (a : State H) (k : ℕ) (c : Filling) {h : H} {w w' : Window} {us : List UnitMark} {ws : List WindowMark} {u : Result (List ℕ) Refusal} {f : Filled} (vs : List UnitMark) (x : Course) →
       Sound a → a.inside ≡ true → handler_at k a.handlers ≡ Some h → stands_open c a.session.window ≡ false → Opens rule (terms_of a) h a.session.window us ws u w → Uses c u w f w' →
-      units.Lives (course a.session.reader a.left) (us ++ vs) x → CalledSo a k c f us (seen a.session.window ∷ (ws ++ use_marks c u f))
+      units.Lives (course a.session.reader a.left) (us ++ vs) x → CalledSo a (handed k c) (filled f) us (seen a.session.window ∷ (ws ++ use_marks c u f))
   filling_exact a k c {h} {w' = w'} {us} {ws} {u} {f} vs x q i e t by n g =
       let o = open_exact a vs x q by g in
       let n' : Uses c u o.0.window f w' = rw (← o.5) n in (
@@ -162,7 +162,7 @@ module _ {H : Type 0} (rule : Rule H) where
       )
 
   pub refused_exact : (a : State H) (k : ℕ) (c : Filling) (h : H) → Sound a → a.inside ≡ true → handler_at k a.handlers ≡ Some h → stands_open c a.session.window ≡ true →
-      CalledSo a k c (refuses c window_open) [] (seen a.session.window ∷ [])
+      CalledSo a (handed k c) (filled (refuses c window_open)) [] (seen a.session.window ∷ [])
   refused_exact a k c h q i e t = (
     behind_filling a k h a.session a.left,
     calls.Step.with_handler i e (sessions.FillingCall.finds_window t refl) refl,

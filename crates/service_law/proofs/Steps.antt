@@ -4,7 +4,7 @@ use Rattle.std.proofs.Common.{◌∷◌, length, take, drop, Some, None, Option,
 use Rattle.lines.specs.Format.{Line}
 use Rattle.links.specs.Items.{Item}
 use Rattle.rules.specs.Handlers.{Rule}
-use Rattle.rules.specs.Readers.{Phase, Reader, verdict, answer, left_in, read_after, edited_in, edit_answer, edit_after}
+use Rattle.rules.specs.Readers.{Stops, Phase, Reader, verdict, answer, left_in, read_after, edited_in, edit_answer, edit_after}
 use Rattle.rules.specs.Sessions.{whole, Window, no_window, Session, with_reader, data_line_answer}
 use Rattle.rules.specs.Sessions as sessions
 use Rattle.service_law.specs.Calls.{Plain, read_line, peek_line, replace_and_truncate, reset, reset_with, leave, begin, stopped_at, consume, read_data_line, peek_data_line}
@@ -29,6 +29,9 @@ pub record Sound {H : Type 0} (a : State H) : Type 0 where
   pub shows_held : ShowsHeld a.session.reader
   pub long : Long a.session.window
   pub shut_outside : a.inside ≡ false → a.session.window ≡ no_window
+
+pub new_sound : {H : Type 0} (s : Stops) (items : List Item) (hs : List H) → Sound (calls.new_service s items hs)
+new_sound s items hs = record { shows_held = tt; long = refl; shut_outside = λ e. refl }
 
 -- what befell on the way from a to b, where the terms are g
 pub record Does {H : Type 0} (a : State H) (us : List UnitMark) (ws : List WindowMark) (g : Terms H) (b : State H) : Type 0 where
