@@ -50,7 +50,8 @@ impl Taken {
             .bytes
             .saturating_add(U16_HEX_BYTES as u64)
             .saturating_add(length as u64);
-        self.sum = memory.iter().skip(U16_HEX_BYTES).take(length).fold(
+        let behind = &memory[U16_HEX_BYTES.min(memory.len())..];
+        self.sum = behind[..length.min(behind.len())].iter().fold(
             self.sum,
             |sum, byte| sum.wrapping_mul(31).wrapping_add(u64::from(*byte)),
         );

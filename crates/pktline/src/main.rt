@@ -1,6 +1,9 @@
 //! Shows the packet lines of a capture.
 #![tactic(auto)]
 
+ghost use Rattle.std.specs.Prelude.{IfOk};
+ghost use Rattle.pktline.specs.Pieces.{IsEnd};
+
 mod closing;
 mod command;
 mod payload;
@@ -140,7 +143,10 @@ impl<W: Write + Drop> Listing<W> {
     }
 
     /// Shows what `bytes` hold, entry by entry, and answers the bytes that begin no entry yet; `at_end` says that no more come.
-    fn show<'a>(&mut self, bytes: &'a [u8], at_end: bool) -> io::Result<&'a [u8]> {
+    #[tactic(auto, using(crate::proofs::Pieces::end_behind, crate::proofs::Pieces::none_left))]
+    fn show<'a>(&mut self, bytes: &'a [u8], at_end: bool) -> io::Result<&'a [u8]>
+        ensures { IfOk result (λ rest. IsEnd rest.now bytes.now) }
+    {
         let mut entries = Entries::new(bytes, at_end);
         while !self.totals.gives_up() {
             let Some(entry) = entries.next() else {

@@ -79,14 +79,15 @@ fn write_banded<W: fmt::Write>(
     payload: &[u8],
     banded: Result<BandRef<'_>, BandError>,
 ) -> fmt::Result {
-    let (band, rest) = match banded {
-        Ok(BandRef::Data(rest)) => ("1 data", rest),
-        Ok(BandRef::Progress(rest)) => ("2 progress", rest),
-        Ok(BandRef::Error(rest)) => ("3 error", rest),
+    let (columns, rest) = match banded {
+        Ok(BandRef::Data(rest)) => ("data          1 data      ", rest),
+        Ok(BandRef::Progress(rest)) => ("data          2 progress  ", rest),
+        Ok(BandRef::Error(rest)) => ("data          3 error     ", rest),
         Err(BandError::UnknownBand(first)) => {
             return write!(f, "data          none 0x{first:02x}   {}", Excerpt(payload));
         }
         Err(BandError::NoBand) => return f.write_str("data"),
     };
-    write!(f, "data          {band:<12}{}", Excerpt(rest))
+    f.write_str(columns)?;
+    f.write(Excerpt(rest))
 }
