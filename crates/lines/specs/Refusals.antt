@@ -1,5 +1,6 @@
 -- The refusals of this layer, by the numbers of docs/REFUSALS.md.
-use Rattle.std.specs.Prelude.{ℕ, Some, None, Option}
+use Rattle.std.specs.Prelude.{ℕ, List, ◌++◌, codes, Some, None, Option}
+use Rattle.std.specs.Fmt.{decimal}
 
 -- a refusal is a number of the table, and the value that comes with it, if its row has one
 pub data Refusal : Type 0 where
@@ -12,6 +13,11 @@ number_of (refused n v) = n
 -- the value of a refusal
 abbrev pub value_of : Refusal → Option ℕ
 value_of (refused n v) = v
+
+-- how a refusal is written: its number, and behind a blank its value
+abbrev pub written : Refusal → List ℕ
+written (refused n None) = decimal n
+written (refused n (Some v)) = decimal n ++ (codes " " ++ decimal v)
 
 -- a prefix that is not four hexadecimal digits
 abbrev pub not_hex : Refusal

@@ -1,6 +1,6 @@
 //! Refusals, by their table.
 ghost use Rattle.std.specs.Prelude.{◌≡◌, Some, None};
-ghost use Rattle.lines.specs.Refusals.{Refusal as Row, refused, number_of, value_of};
+ghost use Rattle.lines.specs.Refusals.{Refusal as Row, refused, number_of, value_of, written};
 ghost use Rattle.lines.specs.Meaning.{row_of};
 
 use std::fmt;
@@ -68,6 +68,8 @@ impl<F: Refuses + Drop> From<F> for Refusal {
 }
 
 impl fmt::Display for Refusal {
+    ghost output = { λ r. Some (written (row_of r)) };
+
     fn fmt<W: fmt::Write>(&self, f: &mut fmt::Formatter<W>) -> fmt::Result {
         write!(f, "{}", self.number)?;
         match self.value {

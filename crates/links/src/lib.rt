@@ -6,6 +6,7 @@ pub mod sink;
 pub mod source;
 pub mod unit;
 
+pub use lines::{Refusal, Refuses};
 use std::error::Error;
 use std::fmt;
 

@@ -1,9 +1,9 @@
 //! The answer to a call.
 use crate::answer::Answer;
 use crate::script::Call;
-use lines::Refusal;
 use lines::decode::{all_at_once, hex_prefix, streaming, to_data_line};
 use lines::encode::u16_to_hex;
+use lines::{Refusal, same_line};
 
 /// Makes the call, and answers what it answers.
 pub fn answer_to(call: &Call) -> Result<Answer<'_>, Refusal> {
@@ -20,7 +20,7 @@ pub fn answer_to(call: &Call) -> Result<Answer<'_>, Refusal> {
             .as_packet_line()
             .as_band(*k)
             .map_or(Answer::Found(None), Answer::Band),
-        Call::LineEq(a, b) => Answer::Same(a.as_packet_line() == b.as_packet_line()),
+        Call::LineEq(a, b) => Answer::Same(same_line(&a.as_packet_line(), &b.as_packet_line())),
         Call::U16ToHex(n) => Answer::Digits(u16_to_hex(*n)),
     })
 }
