@@ -3,7 +3,7 @@ use Rattle.std.proofs.Common.{◌≡◌, ℕ, ◌<◌, ◌⊎◌, List, length, 
 use Rattle.std.proofs.lemmas.Bool.Decides.{nat_tests}
 use Rattle.hex_digits.specs.Digits.{digit, joined, hex_digit_of, hex, length_field}
 
-digit_written : (d : ℕ) → d < 16 → digit (hex_digit_of d) ≡ Some d
+pub digit_written : (d : ℕ) → d < 16 → digit (hex_digit_of d) ≡ Some d
 digit_written d h = grind (arith, nat_tests)
 
 pub number_written : (n : ℕ) → n < 65536 → length_field (hex n) ≡ Some n

@@ -7,7 +7,7 @@ use Rattle.links.specs.Cut.{first_unit}
 use Rattle.rules.specs.Readers.{Stops, View, the_line, Phase, ready, holds, Reader, Verdict, judged, verdict_in, verdict, left_in, answer, read_phase, peek_phase, read_after, peek_after}
 use Rattle.rules.specs.Readers as readers
 use Rattle.rules.specs.Sessions.{Place, Way, whole, band_rule, destination}
-use Rattle.service_law.specs.Marks.{Piece, free, has, UnitMark, took, shown, reported, standing, given_to_windows}
+use Rattle.service_law.specs.Marks.{Piece, free, has, UnitMark, took, shown, reported, standing, held, given_to_windows}
 use Rattle.service_law.specs.Law.{ReadBy, PeekBy, peeked, answer_at}
 use Rattle.service_law.specs.Law as law
 use Rattle.service_law.proofs.Units.{Course, Lives, course}
@@ -79,6 +79,10 @@ ShowsHeld r = ShowsIn r.phase r.view
 
 pub read_shows : (r : Reader) (items : List Item) → ShowsHeld (read_after r items)
 read_shows r items = grind arith
+
+-- a reading leaves no line held
+pub reads_none : (r : Reader) (items : List Item) → held (read_after r items).phase ≡ []
+reads_none r items = grind arith
 
 -- what a call does that gives no window a byte
 pub record GivesNone (r : Reader) (items : List Item) (us : List UnitMark) (r' : Reader) (rest : List Item) : Type 0 where

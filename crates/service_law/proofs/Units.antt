@@ -1,9 +1,9 @@
 -- The course of a reader, its source and its view under marks, and what it says of the lists of units taken, reported and viewed.
-use Rattle.std.proofs.Common.{◌≡◌, ℕ, ◌<◌, List, [], ◌∷◌, ◌++◌, length, Ok, refl, ap, ◌∙◌, ap₂, arith}
+use Rattle.std.proofs.Common.{◌≡◌, ℕ, ◌<◌, List, [], ◌∷◌, ◌++◌, length, Ok, refl, ap, ap₂, subst, arith}
 use Rattle.lines.specs.Format.{payload}
 use Rattle.links.specs.Items.{Item}
 use Rattle.links.specs.Cut.{first_unit, units, after}
-use Rattle.rules.specs.Readers.{View, Reader}
+use Rattle.rules.specs.Readers.{View, Phase, Reader}
 use Rattle.service_law.specs.Along.{at_end, next}
 use Rattle.service_law.specs.Marks.{Piece, Standing, free, has, UnitMark, took, shown, edited, reported, found, resumed, behind, released, UnitGoes, UnitsGo}
 use Rattle.service_law.specs.Marks.{taken, reports_of, edit_unit, edits_on, as_edited, standing, held, standing_view, edited_view, view_at, view_behind, viewed}
@@ -74,16 +74,24 @@ kept a = []
 none_more : (a : Standing) → kept a ≡ pending a [] ++ []
 none_more a = grind arith
 
-one_more : (c : Course) (m : UnitMark) (us : List UnitMark) (k : List Piece) → MayCome c m → reports_of us ++ k ≡ pending (stands_behind c.stands m) us ++ as_edited us →
-    reports_of (m ∷ us) ++ k ≡ pending c.stands (m ∷ us) ++ as_edited (m ∷ us)
-one_more c m us k h e = grind arith
+one_more : (a : Standing) (m : UnitMark) (b : Standing) (us : List UnitMark) (k : List Piece) → UnitGoes a m b → reports_of us ++ k ≡ pending b us ++ as_edited us →
+    reports_of (m ∷ us) ++ k ≡ pending a (m ∷ us) ++ as_edited (m ∷ us)
+one_more a m b us k life.takes e = grind arith
+one_more a m b us k life.shows e = grind arith
+one_more a m b us k (life.edits h) e = grind arith
+one_more a m b us k life.reports e = grind arith
+one_more a m b us k life.finds e = grind arith
+one_more a m b us k life.resumes e = grind arith
 
-reports_edited : (c : Course) (us : List UnitMark) (d : Course) → Lives c us d → reports_of us ++ kept d.stands ≡ pending c.stands us ++ as_edited us
-reports_edited c [] d p = ap (λ x. kept x.stands) p ∙ none_more c.stands
-reports_edited c (m ∷ us) d p = one_more c m us (kept d.stands) p.0 (reports_edited (course_behind c m) us d p.1)
+reports_edited : {a b : Standing} {us : List UnitMark} → UnitsGo a us b → reports_of us ++ kept b ≡ pending a us ++ as_edited us
+reports_edited (at_end {a}) = none_more a
+reports_edited (next {a} {b} {c} {m} {ms} g p) = one_more a m b ms (kept c) g (reports_edited p)
+
+pub reported_as_edited : (p : Phase) (us : List UnitMark) → UnitsGo free us (standing p) → reports_of us ++ held p ≡ as_edited us
+reported_as_edited p us g = grind (arith, reports_edited g)
 
 pub reported_once : (c : Course) (us : List UnitMark) (r : Reader) (items : List Item) → c.stands ≡ free → Lives c us (course r items) → reports_of us ++ held r.phase ≡ as_edited us
-reported_once c us r items f g = grind (arith, reports_edited c us (course r items) g)
+reported_once c us r items f g = reported_as_edited r.phase us (subst (λ a. UnitsGo a us (standing r.phase)) f (units_go c us (course r items) g))
 
 -- The life of units, the cut and the view tell the course
 
