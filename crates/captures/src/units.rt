@@ -50,6 +50,7 @@ impl Taken {
             .bytes
             .saturating_add(U16_HEX_BYTES as u64)
             .saturating_add(length as u64);
+        // A slice, since `skip` and `take` test each byte.
         let behind = &memory[U16_HEX_BYTES.min(memory.len())..];
         self.sum = behind[..length.min(behind.len())].iter().fold(
             self.sum,

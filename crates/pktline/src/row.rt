@@ -79,6 +79,7 @@ fn write_banded<W: fmt::Write>(
     payload: &[u8],
     banded: Result<BandRef<'_>, BandError>,
 ) -> fmt::Result {
+    // Kind and band in one text, as wide as their columns: padding by `{:<12}` takes a third more for a short row.
     let (columns, rest) = match banded {
         Ok(BandRef::Data(rest)) => ("data          1 data      ", rest),
         Ok(BandRef::Progress(rest)) => ("data          2 progress  ", rest),
